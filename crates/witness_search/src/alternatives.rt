@@ -3,7 +3,7 @@
 use crate::attempt::{Attempt, Failure};
 use crate::candidates::Candidates;
 use crate::choices::{Change, Fate, Remedy, Unseen};
-use crate::findings::MeantCall;
+use crate::findings::Findings;
 use crate::key::EndpointKey;
 use crate::together::Kind;
 use case_forms::{Event, Header, Judged, Line, OutOfMemory, Timer};
@@ -30,11 +30,7 @@ const LONGEST_WAIT: u64 = 1_000_000;
 #[derive(Clone, Copy)]
 pub(crate) struct Known<'t> {
     pub lines: &'t [Line],
-    /// What calls mean, in the order of their beginnings.
-    meant: &'t [MeantCall],
-    /// The places of arrivals that ended beyond the window, and of those that were processed late.
-    pub beyond: &'t [usize],
-    pub late: &'t [usize],
+    pub findings: &'t Findings,
     pub failure: Failure,
     /// For how many microseconds an arrival may wait.
     pub longest_wait: u64,
@@ -70,9 +66,7 @@ impl<'t> Known<'t> {
     ) -> Option<Known<'t>> {
         Some(Known {
             lines,
-            meant: attempt.findings.meant.as_slice(),
-            beyond: attempt.findings.beyond.as_slice(),
-            late: attempt.findings.late.as_slice(),
+            findings: &attempt.findings,
             failure: attempt.failure()?,
             longest_wait: header.slack.unwrap_or(LONGEST_WAIT).min(LONGEST_WAIT),
             are_copies: !header.version.is_half(),
@@ -99,8 +93,9 @@ impl<'t> Known<'t> {
 
     // The endpoint that the call means that begins at a place.
     fn meant_at(&self, place: usize) -> Option<EndpointKey> {
-        let index = self.meant.binary_search_by_key(&place, |call| call.place);
-        Some(self.meant.get(index.ok()?)?.key)
+        let meant = self.findings.meant.as_slice();
+        let index = meant.binary_search_by_key(&place, |call| call.place);
+        Some(meant.get(index.ok()?)?.key)
     }
 
     // What may be chosen at one line, if it applies to the endpoint of the failure.
@@ -165,7 +160,7 @@ impl<'t> Known<'t> {
         if self.is_arrival_of(place, Kind::HasLength) {
             return Some(Fate::NotKept);
         }
-        let is_late = self.late.binary_search(&place).is_ok();
+        let is_late = self.findings.late.binary_search(&place).is_ok();
         is_late.then_some(Fate::Prompt)
     }
 

@@ -73,9 +73,6 @@ impl Attempt {
 
     /// Whether it explains the line at this place, and so all lines before it.
     pub(crate) fn explains(&self, place: usize) -> bool {
-        match self.failure() {
-            Some(failure) => place < failure.place,
-            None => true,
-        }
+        self.failure().is_none_or(|failure| failure.place > place)
     }
 }

@@ -28,10 +28,9 @@ impl Candidates {
 
     // The place of the first choice of a candidate.
     fn start_of(&self, index: usize) -> usize {
-        match index.checked_sub(1) {
-            Some(before) => self.stops.get(before).copied().unwrap_or(0),
-            None => 0,
-        }
+        let before = index.checked_sub(1);
+        let stop = before.and_then(|before| self.stops.get(before));
+        stop.copied().unwrap_or(0)
     }
 
     /// The choices of a candidate, none if it doesn't exist.

@@ -56,10 +56,10 @@ impl<'t> CaseText<'t> {
     /// A piece, the header first. It's empty if there are fewer pieces.
     pub fn piece(&self, index: usize) -> &[u8] {
         if let Some(block) = index.checked_sub(self.trace_pieces()) {
-            return match self.witness.get(block) {
-                Some(block) => block.as_slice(),
-                None => &[],
-            };
+            return self
+                .witness
+                .get(block)
+                .map_or(&[], |block| block.as_slice());
         }
         let Some(index) = index.checked_sub(1) else {
             return self.header.as_slice();
@@ -121,10 +121,9 @@ impl<'t> CaseText<'t> {
 
     /// The case as one text.
     pub fn joined(&self, alloc: Global) -> Result<Vec<u8>, OutOfMemory> {
-        let mut len: usize = 0;
-        for index in 0..self.pieces() {
-            len = len.saturating_add(self.piece(index).len());
-        }
+        let len = (0..self.pieces()).fold(0, |len: usize, index| {
+            len.saturating_add(self.piece(index).len())
+        });
         let mut joined = Vec::with_capacity(alloc, len)?;
         for index in 0..self.pieces() {
             joined.extend_from_slice(self.piece(index))?;

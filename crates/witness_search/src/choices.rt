@@ -204,11 +204,7 @@ impl Choices {
 
     /// Whether the arrival or the call of a line waits for a later one.
     pub(crate) fn waits(&self, place: usize) -> bool {
-        for choice in self.at(place) {
-            if choice.place == place && matches!(choice.change, Change::WaitUntil(_)) {
-                return true;
-            }
-        }
-        false
+        let mut choices = self.at(place).iter();
+        choices.any(|choice| choice.place == place && matches!(choice.change, Change::WaitUntil(_)))
     }
 }

@@ -34,10 +34,7 @@ impl Late {
 
     /// How many arrivals an endpoint has to process.
     pub(crate) fn count(&self, key: EndpointKey) -> usize {
-        match self.0.get(&key) {
-            Some(all) => all.len(),
-            None => 0,
-        }
+        self.0.get(&key).map_or(0, |all| all.len())
     }
 
     /// An endpoint processes an arrival after all others.

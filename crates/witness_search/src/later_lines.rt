@@ -45,10 +45,8 @@ impl LaterLines {
 
     // Reads the lines from the last to the first.
     fn read_all(&mut self, lines: &[Line]) -> Result<(), OutOfMemory> {
-        for place in (0..lines.len()).rev() {
-            if let Some(line) = lines.get(place) {
-                self.read(place, line)?;
-            }
+        for (place, line) in lines.iter().enumerate().rev() {
+            self.read(place, line)?;
         }
         Ok(())
     }

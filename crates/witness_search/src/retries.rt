@@ -163,10 +163,7 @@ impl<'t> Retries<'t> {
         self.choices.set(&self.before_pairs)?;
         let tried = self.best.failure();
         self.try_singles(u64::MAX)?;
-        Ok(match tried {
-            Some(failure) => self.best.explains(failure.place),
-            None => false,
-        })
+        Ok(tried.is_some_and(|failure| self.best.explains(failure.place)))
     }
 
     // Tries two candidates of the best attempt at once. The result is whether they explain a further line.
@@ -253,16 +250,14 @@ impl<'t> Retries<'t> {
 
     // The last attempt is the best one if it explains more. The result is whether it does.
     fn keep_if_best(&mut self) -> Result<bool, OutOfMemory> {
-        let Some(failure) = self.best.failure() else {
-            return Ok(false);
-        };
-        if !self.last.explains(failure.place) {
-            return Ok(false);
+        let best = self.best.failure();
+        let is_best = best.is_some_and(|failure| self.last.explains(failure.place));
+        if is_best {
+            swap(&mut self.best, &mut self.last);
+            self.chosen.set(&self.choices)?;
+            self.cost_of_best = self.cost;
         }
-        swap(&mut self.best, &mut self.last);
-        self.cost_of_best = self.cost;
-        self.chosen.set(&self.choices)?;
-        Ok(true)
+        Ok(is_best)
     }
 
     // Tries the host of the line that the best attempt doesn't explain in other ways, unless that was done. The result
@@ -326,10 +321,7 @@ impl<'t> Retries<'t> {
     /// Whether it explains more than another search.
     pub(crate) fn explains_more(&self, other: &Retries<'_>) -> bool {
         let failure = other.best.failure();
-        match failure {
-            Some(failure) => self.best.explains(failure.place),
-            None => false,
-        }
+        failure.is_some_and(|failure| self.best.explains(failure.place))
     }
 
     // Puts the level of the last attempt on the path, unless candidates were listed this often for its line.

@@ -56,17 +56,6 @@ fn ends_beyond(wire: &Wire, number: u32) -> bool {
     length_of(wire) > 0 && ahead > 0 && ahead < HALF
 }
 
-// Whether a segment begins before the end of what was sent. If it doesn't, what was sent ends with it.
-fn is_again(sent: &mut Option<u32>, wire: &Wire) -> bool {
-    match *sent {
-        Some(end) if HALF <= wire.seg.seq.0.wrapping_sub(end) => true,
-        _ => {
-            *sent = Some(end_of(wire));
-            false
-        }
-    }
-}
-
 impl Known<'_> {
     // The acknowledgment number of the failing line. None: it has none.
     fn shown_ack(&self) -> Option<u32> {
@@ -108,24 +97,20 @@ impl Known<'_> {
 
     // One candidate: the last arrivals that were processed late are processed at once.
     fn hurry_all(&self, out: &mut Candidates) -> Result<(), OutOfMemory> {
-        let mut left = TOGETHER;
-        for place in self.late.iter().rev().take(REACH) {
-            if left > 0 && self.is_at_failing_endpoint(*place) {
-                out.add(*place, Change::Fate(Fate::Prompt))?;
-                left = left.saturating_sub(1);
-            }
+        let places = self.findings.late.iter().rev().take(REACH);
+        let places = places.filter(|place| self.is_at_failing_endpoint(**place));
+        for place in places.take(TOGETHER) {
+            out.add(*place, Change::Fate(Fate::Prompt))?;
         }
         out.end()
     }
 
     // The last arrivals that end beyond the window: an unseen segment advertised a larger one.
     fn widen(&self, out: &mut Candidates) -> Result<(), OutOfMemory> {
-        let mut left = NEAR;
-        for place in self.beyond.iter().rev().take(REACH) {
-            if left > 0 && self.is_at_failing_endpoint(*place) {
-                out.push(*place, Change::Fate(Fate::Widened))?;
-                left = left.saturating_sub(1);
-            }
+        let places = self.findings.beyond.iter().rev().take(REACH);
+        let places = places.filter(|place| self.is_at_failing_endpoint(**place));
+        for place in places.take(NEAR) {
+            out.push(*place, Change::Fate(Fate::Widened))?;
         }
         Ok(())
     }
@@ -143,14 +128,17 @@ impl Known<'_> {
 
     // One candidate: the retransmission timer expires before each retransmission, if it may.
     fn expire_each(&self, out: &mut Candidates, at: EndpointKey) -> Result<(), OutOfMemory> {
-        let mut sent = None;
+        let mut end: Option<u32> = None;
         let first = self.failure.place.saturating_sub(REACH);
         for place in first..=self.failure.place {
-            let wire = self.sent_by(at, place);
-            if let Some(wire) = wire
-                && is_again(&mut sent, wire)
-            {
-                out.add(place, Change::Before(at, Remedy::Rto))?;
+            let Some(wire) = self.sent_by(at, place) else {
+                continue;
+            };
+            match end {
+                Some(end) if HALF <= wire.seg.seq.0.wrapping_sub(end) => {
+                    out.add(place, Change::Before(at, Remedy::Rto))?
+                }
+                _ => end = Some(end_of(wire)),
             }
         }
         out.end()
@@ -158,10 +146,7 @@ impl Known<'_> {
 
     // The moment of the line at a place, in microseconds.
     fn moment_at(&self, place: usize) -> u64 {
-        match self.lines.get(place) {
-            Some(line) => line.moment,
-            None => 0,
-        }
+        self.lines.get(place).map_or(0, |line| line.moment)
     }
 
     // A timer expires before the failure, as early as the slack permits if its segment is sent then.
@@ -175,22 +160,12 @@ impl Known<'_> {
             return Ok(());
         };
         let first = line.moment.saturating_sub(self.longest_wait);
-        match self.first_since(first) {
+        let places = (1..=REACH).map_while(|distance| self.place_at(Side::Before, distance));
+        let near = places.take_while(|place| first <= self.moment_at(*place));
+        match near.last() {
             Some(place) => out.push(place, Change::Before(at, remedy)),
             None => Ok(()),
         }
-    }
-
-    // The place of the first line before the failure that isn't earlier than a moment, in microseconds.
-    fn first_since(&self, moment: u64) -> Option<usize> {
-        let mut found = None;
-        for distance in 1..=REACH {
-            match self.place_at(Side::Before, distance) {
-                Some(place) if moment <= self.moment_at(place) => found = Some(place),
-                _ => break,
-            }
-        }
-        found
     }
 
     // The segment with bytes or a FIN that an endpoint sends with the line at a place.
@@ -221,15 +196,10 @@ impl Known<'_> {
         fate: Fate,
         side: Side,
     ) -> Result<(), OutOfMemory> {
-        let mut left = TOGETHER;
-        for distance in 1..=REACH {
-            let Some(place) = self.place_at(side, distance) else {
-                break;
-            };
-            if left > 0 && self.is_arrival_of(place, kind) {
-                out.add(place, Change::Fate(fate))?;
-                left = left.saturating_sub(1);
-            }
+        let places = (1..=REACH).map_while(|distance| self.place_at(side, distance));
+        let places = places.filter(|place| self.is_arrival_of(*place, kind));
+        for place in places.take(TOGETHER) {
+            out.add(place, Change::Fate(fate))?;
         }
         Ok(())
     }

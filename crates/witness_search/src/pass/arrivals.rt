@@ -145,10 +145,8 @@ impl Progress {
         let Some((key, m)) = self.waiting(host, line) else {
             return Ok(false);
         };
-        let is_over = match self.endpoint(key) {
-            Some(endpoint) => m.flags.syn && endpoint.state.is_time_wait(),
-            None => false,
-        };
+        let endpoint = self.endpoint(key);
+        let is_over = m.flags.syn && endpoint.is_some_and(|endpoint| endpoint.state.is_time_wait());
         Ok(is_over && self.add_expiry(key, Timer::Msl2)?)
     }
 }
@@ -228,10 +226,10 @@ impl<'t> Pass<'t> {
 
     // When a segment is sent.
     fn moment_of(&self, shown: Shown<'_>) -> u64 {
-        match self.sought.lines.get(shown.place) {
-            Some(line) => line.moment,
-            None => 0,
-        }
+        self.sought
+            .lines
+            .get(shown.place)
+            .map_or(0, |line| line.moment)
     }
 
     /// An endpoint sent a segment: it processes what is late there, up to the first that was built after the next
@@ -394,10 +392,8 @@ impl<'t> Pass<'t> {
 
     // Calls on the endpoint that processed a segment are tried, and those on its listener.
     fn wake_receiver(&mut self, key: EndpointKey) -> Result<(), Stop> {
-        let listener = match self.progress.endpoint(key) {
-            Some(endpoint) => endpoint.listener,
-            None => None,
-        };
+        let endpoint = self.progress.endpoint(key);
+        let listener = endpoint.and_then(|endpoint| endpoint.listener);
         self.wake_endpoint(key)?;
         match listener {
             Some(listener) => self.wake(listener_at(key.host(), listener)),

@@ -169,14 +169,9 @@ impl Pass<'_> {
     // Whether a call has its effect now, with the answer with which it ends.
     fn has_effect(&mut self, pending: Pending) -> Result<bool, Stop> {
         let lines = self.sought.lines;
-        let Some(end) = pending.end else {
-            return Ok(false);
-        };
-        let Some(line) = lines.get(end) else {
-            return Ok(false);
-        };
-        match &line.event {
-            Event::CallEnd(answer) => self.try_effect(pending.thread, answer),
+        let end = pending.end.and_then(|end| lines.get(end));
+        match end.map(|line| &line.event) {
+            Some(Event::CallEnd(answer)) => self.try_effect(pending.thread, answer),
             _ => Ok(false),
         }
     }

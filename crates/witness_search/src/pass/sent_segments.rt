@@ -54,11 +54,9 @@ impl Progress {
     pub(crate) fn plan_of(&self, key: EndpointKey, wire: &Wire) -> SegmentPlan {
         let seg = &wire.seg;
         let flags = flags_of(seg);
-        let (pos, iss) = match self.endpoint(key) {
-            Some(endpoint) => (position_of(endpoint, seg.seq), endpoint.iss),
-            None => (None, None),
-        };
-        let is_first = flags.syn && iss.is_none();
+        let endpoint = self.endpoint(key);
+        let pos = endpoint.and_then(|endpoint| position_of(endpoint, seg.seq));
+        let is_first = flags.syn && endpoint.is_none_or(|endpoint| endpoint.iss.is_none());
         let is_scaled = is_first && self.world().header().version.scales();
         SegmentPlan {
             lport: key.lport,
@@ -81,11 +79,8 @@ impl Progress {
     // After one expiry, or if retransmissions aren't judged, a SYN may be built again without another expiry. Its timer
     // may have expired all the same.
     fn expire_before_syn(&mut self, key: EndpointKey) -> Result<(), Stop> {
-        let was_sent = match self.endpoint(key) {
-            Some(endpoint) => endpoint.iss.is_some() && endpoint.snd_max() > 0,
-            None => false,
-        };
-        if was_sent {
+        let endpoint = self.endpoint(key);
+        if endpoint.is_some_and(|endpoint| endpoint.iss.is_some() && endpoint.snd_max() > 0) {
             self.add_expiry(key, Timer::Rto)?;
         }
         Ok(())
@@ -98,10 +93,8 @@ impl Progress {
             return Ok(());
         }
         let plan = self.plan_of(key, wire);
-        let is_oldest = match self.endpoint(key) {
-            Some(endpoint) => holds_oldest(endpoint, &plan),
-            None => false,
-        };
+        let endpoint = self.endpoint(key);
+        let is_oldest = endpoint.is_some_and(|endpoint| holds_oldest(endpoint, &plan));
         if is_oldest && self.admits_making(key.host(), &plan) {
             self.add_expiry(key, Timer::Rto)?;
         }
@@ -110,10 +103,8 @@ impl Progress {
 
     // Does what permits old data to be sent again.
     fn permit_old_data(&mut self, key: EndpointKey) -> Result<bool, Stop> {
-        let is_closed = match self.endpoint(key) {
-            Some(endpoint) => endpoint.window.snd_wnd == 0,
-            None => false,
-        };
+        let endpoint = self.endpoint(key);
+        let is_closed = endpoint.is_some_and(|endpoint| endpoint.window.snd_wnd == 0);
         if is_closed && self.add_expiry(key, Timer::Persist)? {
             return Ok(true);
         }
@@ -196,10 +187,8 @@ impl<'t> Pass<'t> {
 
     // Does what may permit a segment that breaks this rule. The result is whether something was done.
     fn remedy(&mut self, key: EndpointKey, plan: SegmentPlan, rule: Rule) -> Result<bool, Stop> {
-        let is_after_gap = match self.progress.endpoint(key) {
-            Some(endpoint) => endpoint.snd_max() < plan.pos,
-            None => false,
-        };
+        let endpoint = self.progress.endpoint(key);
+        let is_after_gap = endpoint.is_some_and(|endpoint| endpoint.snd_max() < plan.pos);
         match rule {
             // What precedes the segment was built, and no line shows it.
             Rule::OldData if is_after_gap => self.make_unseen(key, Unseen::One, plan.pos),

@@ -129,10 +129,8 @@ impl Pass<'_> {
     // The next segment that an endpoint can build. None: it has nothing to send.
     fn unseen_plan(&self, key: EndpointKey, unseen: Unseen, to: u64) -> Option<SegmentPlan> {
         let endpoint = self.progress.endpoint(key)?;
-        let window = match self.outgoing.next(key) {
-            Some(shown) => shown.wire.seg.window,
-            None => u16::MAX,
-        };
+        let next = self.outgoing.next(key).map(|shown| shown.wire);
+        let window = next.map_or(u16::MAX, |wire| wire.seg.window);
         if unseen == Unseen::Reset {
             let mut plan = bare(endpoint, window, endpoint.rcv_nxt() >= 1);
             plan.flags.rst = true;

@@ -22,10 +22,8 @@ impl Progress {
         if self.slack().is_none() {
             return false;
         }
-        match self.endpoint(key) {
-            Some(endpoint) => expiry_due(&view_of(endpoint), 0).is_some(),
-            None => false,
-        }
+        let endpoint = self.endpoint(key);
+        endpoint.is_some_and(|endpoint| expiry_due(&view_of(endpoint), 0).is_some())
     }
 
     /// Whether an endpoint sent as many mere acknowledgments as segments came, if duties are judged.

@@ -233,10 +233,7 @@ impl Progress {
 
     // The position after all that an endpoint built.
     fn built_at(&self, key: EndpointKey) -> u64 {
-        match self.endpoint(key) {
-            Some(endpoint) => endpoint.snd_max(),
-            None => 0,
-        }
+        self.endpoint(key).map_or(0, |endpoint| endpoint.snd_max())
     }
 
     /// A host processes the segment that arrived with a line.
