@@ -59,8 +59,8 @@ def parser():
                        "segments were received, so no duty is judged")
     words.add_argument("--skew", type=number_within(*headers.LIMITS["skew"]), default=headers.VALUES["slack"],
                        metavar="N",
-                       help="for a capture between the hosts: how many microseconds a segment needs at most from its host "
-                       "to the capture; one that passes later isn't taken for reordered (default: 1000000)")
+                       help="for a capture between the hosts: how many microseconds a segment needs at most from its "
+                       "host to the capture; one that passes later isn't taken for reordered (default: 1000000)")
     words.add_argument("--level", choices=headers.LEVELS, default=headers.FULL,
                        help="the weakest level whose yes gives status 0 (default: full)")
     add_first_level(words, "--level")
