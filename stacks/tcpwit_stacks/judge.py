@@ -109,7 +109,7 @@ class Judge:
                 words = [*LEVELS_OF, "--least", LEVELS[1], *self.budget, *expiries, "--case", file.name]
                 found = self.object(words, trace)
                 outcome.laxer = [f"{level['level']}: {shown(level['sentence'])}" for level in found["levels"]
-                                 if "sentence" in level]
+                                 if level.get("rule", outcome.rule()) != outcome.rule()]
                 if found["answer"] != "yes":
                     return
                 with open(file.name, encoding="utf-8", errors="backslashreplace") as written:

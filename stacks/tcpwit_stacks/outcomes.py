@@ -17,7 +17,7 @@ class Outcome:
     level: str = ""             # the strictest level with a yes, whose answer this is; empty if no level has one
     refused: str = ""           # the answer at `full`, if `answer` is a yes at a laxer level
     why: list = field(default_factory=list)        # after a no at `full`: what is compared, and usual causes
-    laxer: list = field(default_factory=list)      # what each laxer level without a yes refuses
+    laxer: list = field(default_factory=list)      # what laxer levels refuse by another rule than `full`
     unexpected: list = field(default_factory=list)
     missing: int = 0            # bytes that were accepted and never read
     waiting: list = field(default_factory=list)    # calls that never ended

@@ -78,7 +78,7 @@ class TheCommand(unittest.TestCase):
         path = f"{self.folder}/{name}"
         with open(path, "w") as file:
             file.write(JUDGE.format(asked=f"{self.folder}/asked", check=check, said=said, before_remark=before_remark,
-                                    laxer='{"level":"recovery","sentence":"line 12 sends it again (old-data)."}'))
+                                    laxer='{"level":"recovery","rule":"old-data","sentence":"line 12 sends it again."}'))
         os.chmod(path, 0o755)
         return "--check", path, "--lab", path
 
@@ -699,7 +699,7 @@ for line in sys.stdin:
         status, out, _ = self.run_it(self.adapter(answer="= - ok"), "hostile-closed-ack", *self.programs(check, "why"))
         self.assertEqual(status, 1)
         self.assertIn("\nhostile-closed-ack                 yes at none 1 1, but  ", out)
-        self.assertIn("\n    full: no 9 0 size\n    why\n    recovery: line 12 sends it again (old-data).\n"
+        self.assertIn("\n    full: no 9 0 size\n    why\n    recovery: line 12 sends it again.\n"
                       "    peer, line 7: no rst arrived\n1 yes at none, but\n", out)
         with open(f"{self.folder}/asked") as file:
             self.assertIn("explain --simulated --json\n", file.readlines())

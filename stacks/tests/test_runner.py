@@ -430,6 +430,7 @@ class StandIn(Judge):
     def __init__(self, strictest, fault="no 9 0 congestion", slow=()):
         super().__init__(["the", "check"], ["the", "lab"])
         self.yes, self.fault, self.slow = LEVELS[LEVELS.index(strictest):] if strictest else (), fault, slow
+        self.rule = "old-data"
 
     def outcome(self):
         """The outcome and cases of an empty run."""
@@ -457,7 +458,8 @@ class StandIn(Judge):
             with open(path, "w") as file:
                 file.write(text.replace("congestion full", f"congestion {level}"))
         laxer = LEVELS[1:LEVELS.index(level) + 1]
-        levels = [{"level": each} if each in self.yes else {"level": each, "sentence": f"of {each}"} for each in laxer]
+        levels = [{"level": each} if each in self.yes else {"level": each, "rule": self.rule, "sentence": f"of {each}"}
+                  for each in laxer]
         return json.dumps({"answer": "yes" if self.yes else "no", "level": level, "levels": levels})
 
 
@@ -475,6 +477,11 @@ class TheStrictestLevel(unittest.TestCase):
             self.assertEqual(outcome.why, [] if level == "full" else ["what is compared"])
             self.assertEqual(outcome.laxer, {"none": ["recovery: of recovery"],
                                              "": ["recovery: of recovery", "none: of none"]}.get(level, []))
+
+    def test_a_laxer_level_that_refuses_the_same(self):
+        judge = StandIn("none")
+        judge.rule = "congestion"
+        self.assertEqual(judge.outcome()[0].laxer, [])
 
     def test_a_fault_is_judged_once(self):
         outcome, cases = StandIn("none", "bad trace 7 0 9 header").outcome()
