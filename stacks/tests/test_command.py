@@ -32,6 +32,8 @@ explain) echo '{{"said":["no","{said}"]}}' ;;
 remark) {before_remark} echo '{{"said":["{said}"]}}' | sed 's/""//' ;;
 esac
 """
+# What `judge` says of a level that it refuses.
+LAXER = '{"level":"recovery","rule":"old-data","sentence":"line 12 sends it again."}'
 # An adapter that answers every command the same way.
 ADAPTER = """#!{python}
 import sys
@@ -78,7 +80,7 @@ class TheCommand(unittest.TestCase):
         path = f"{self.folder}/{name}"
         with open(path, "w") as file:
             file.write(JUDGE.format(asked=f"{self.folder}/asked", check=check, said=said, before_remark=before_remark,
-                                    laxer='{"level":"recovery","rule":"old-data","sentence":"line 12 sends it again."}'))
+                                    laxer=LAXER))
         os.chmod(path, 0o755)
         return "--check", path, "--lab", path
 
