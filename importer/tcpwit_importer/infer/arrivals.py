@@ -14,6 +14,8 @@ from .passages import moved
 
 # Above each position.
 FAR = 1 << 62
+# How many arrivals before a reset are compared with it.
+NEAR = 100
 
 
 class Limits:
@@ -160,8 +162,8 @@ def answered(sent, others):
             continue
         while left and left[-1].place >= sent[place].before:
             left.pop()
-        match = next((at for at in reversed(range(len(left))) if may_answer(reset.packet, left[at], received[place])),
-                     None)
+        near = range(len(left) - 1, max(0, len(left) - NEAR) - 1, -1)
+        match = next((at for at in near if may_answer(reset.packet, left[at], received[place])), None)
         if match is not None:
             found[left[match].place] = place
             del left[match:]

@@ -3,6 +3,8 @@
 Sequence numbers are unwrapped here: a position is a number to which a multiple of 2^32 was added, so that positions
 don't wrap.
 """
+from bisect import bisect_left, bisect_right
+from operator import itemgetter
 from typing import Any, NamedTuple
 
 from ..capture.segments import ACK, FIN, RST, SYN, WRAP, window
@@ -57,33 +59,39 @@ def unwrapped(packets, connection, start):
 
 
 class Spans:
-    """A set of positions."""
+    """A set of positions: parts in order, which don't touch. Captures with losses leave many, so they are found by
+    bisection."""
 
     def __init__(self):
         self.parts = []
+
+    def place(self, position):
+        """The place of the first part that ends at a position or after it."""
+        return bisect_left(self.parts, position, key=itemgetter(1))
 
     def add(self, start, stop):
         """Adds the positions from one to before another."""
         if start >= stop:
             return
-        kept = [part for part in self.parts if part[1] < start or part[0] > stop]
-        joined = [part for part in self.parts if part[1] >= start and part[0] <= stop]
-        kept.append((min([start, *(part[0] for part in joined)]), max([stop, *(part[1] for part in joined)])))
-        self.parts = sorted(kept)
+        first, after = self.place(start), bisect_right(self.parts, stop, key=itemgetter(0))
+        joined = self.parts[first:after]
+        if joined:
+            start, stop = min(start, joined[0][0]), max(stop, joined[-1][1])
+        self.parts[first:after] = [(start, stop)]
 
     def missing(self, start, stop):
         """The parts between two positions that it lacks."""
         found = []
-        for first, end in self.parts:
-            if end > start and first < stop:
-                if first > start:
-                    found.append((start, first))
-                start = max(start, end)
+        for first, end in self.parts[self.place(start + 1):bisect_left(self.parts, stop, key=itemgetter(0))]:
+            if first > start:
+                found.append((start, first))
+            start = end
         return found + ([(start, stop)] if start < stop else [])
 
     def begin(self, position):
         """Where the part begins that has the position before this one; the position itself without such a part."""
-        return next((start for start, stop in self.parts if start < position <= stop), position)
+        place = self.place(position)
+        return min(position, self.parts[place][0]) if place < len(self.parts) else position
 
 
 def acknowledged_before(seen, own):
@@ -118,10 +126,11 @@ class Received:
     """What an end had received: all bytes before the position `all`, and the bytes of `parts` after it."""
 
     def __init__(self, seen, own, limit):
-        arrived, self.all, self.parts, claimed = Spans(), None, [], Spans()
+        arrived, came, self.all, self.parts, claimed = Spans(), Spans(), None, [], Spans()
         for each in seen:
             if each.packet.source != own:
                 arrived.add(each.first, each.stop)
+                came.add(each.first, each.stop)
             elif each.reached is not None and self.all is None:
                 self.all = arrived.begin(each.reached)
                 arrived.add(self.all, each.reached)
@@ -131,12 +140,8 @@ class Received:
                     arrived.add(start, stop)
         if self.all is None:
             self.all = min((each.first for each in seen if each.packet.source != own), default=None)
-        self.parts = [part for part in claimed.parts if not self.arrives(seen, own, *part)]
-
-    @staticmethod
-    def arrives(seen, own, start, stop):
-        """Whether some of these bytes arrive in the capture: what is acknowledged before it arrives wasn't received."""
-        return any(each.packet.source != own and each.first < stop and each.stop > start for each in seen)
+        # What is acknowledged before it arrives wasn't received.
+        self.parts = [part for part in claimed.parts if came.missing(*part) == [part]]
 
 
 def offers(each, own):
