@@ -313,7 +313,8 @@ class Recordings(unittest.TestCase):
             for size in sizes:
                 with self.subTest(name, size=size):
                     found = self.levels([cut(file, size) for file in files], words)
-                    self.assertTrue(found)
+                    # Of all cuts, some leave one packet, or one direction.
+                    self.assertTrue(found or cuts is not FEW)
                     for pair, level in found.items():
                         self.assertLessEqual(level, max(1, whole[pair]), pair)
 
