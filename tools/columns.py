@@ -18,7 +18,7 @@ import sys
 TOP = os.path.dirname(os.path.dirname(os.path.abspath(__file__)))
 BASELINE = os.path.join(TOP, "tools", "columns.txt")
 # Files of Python whose names have no ending.
-SCRIPTS = ("tcpwit", "bench/run", "bindings/test", "bindings/c/build", "importer/tcpwit-*", "packaging/build",
+SCRIPTS = ("tcpwit", "test", "bench/run", "bindings/test", "bindings/c/build", "importer/tcpwit-*", "packaging/build",
            "packaging/lines/tcpwit-*", "stacks/run")
 # The maximum width of lines, by files.
 WIDTHS = (("crates/*/src/**/*.rt", 120), ("crates/*/specs/**/*.antt", 120), ("crates/*/proofs/**/*.antt", 160),

@@ -198,10 +198,11 @@ class Facts(unittest.TestCase):
         self.assertEqual(re.findall(r"rattle-kit-.*", self.page("packaging/README.md")), [version])
 
     def test_contributing_lists_the_suites(self):
-        suites = re.search(r"^readonly SUITES='\n(.*?)'$", self.page("test"), re.M | re.S)[1]
+        refused = subprocess.run([f"{docs.TOP}/test", "nosuch"], stderr=subprocess.PIPE, text=True)
+        self.assertEqual(refused.returncode, 2)
+        suites = re.search(r"the suites are ([\w ]+), and bodies quick and cases$", refused.stderr)[1]
         row = re.search(r"^\| `\./test NAME \.\.` \| (.*) \|$", self.page("CONTRIBUTING.md"), re.M)[1]
-        self.assertEqual(re.findall(r"`(\w+)`", row),
-                         [line.split()[0] for line in suites.splitlines() if not line.startswith("+")])
+        self.assertEqual(re.findall(r"`(\w+)`", row), suites.split())
 
 
 if __name__ == "__main__":
