@@ -77,7 +77,7 @@ class Completion(unittest.TestCase):
         self.assertEqual(self.completed("tcpwit_lab", "draw", "--from", "1", ""), ["--from", "--to"])
         self.assertEqual(self.completed("tcpwit_lab", "judge", ""),
                          ["--least", "--from", "--slack", "--budget", "--ways", "--expiries", "--case", "--json",
-                          "--help"])
+                          "--many", "--help"])
         self.assertEqual(self.completed("tcpwit_lab", "judge", "--budget", ""), [])
         self.assertEqual(self.completed("tcpwit_lab", "judge", "--budget", "0", "--b"), ["--budget"])
 

@@ -206,5 +206,57 @@ class Json(unittest.TestCase):
                                          [("{", 4), ("{", 4), ("b", 4)])
 
 
+class Many(unittest.TestCase):
+    """`judge --many` gives each trace the object that `judge` gives it alone."""
+
+    def many(self, text, *words):
+        line, status = run(["judge", "--many", "--json", *words], text)
+        return line.splitlines(keepends=True), status
+
+    def alone(self, text, *words):
+        return run(["judge", "--json", *words], text)
+
+    def test_same_answers(self):
+        texts = [content(f"{DATA}/{name}") for name in traces("kernel")]
+        for words in ([], ["--slack", "any"], ["--least", "none", "--budget", "0"]):
+            alone = [self.alone(text, *words) for text in texts]
+            found = self.many(b"".join(text + b"end\n" for text in texts), *words)
+            self.assertEqual(found, ([line for line, _ in alone], max(status for _, status in alone)))
+
+    def test_where_a_trace_ends(self):
+        text = content(f"{DATA}/{traces('kernel')[0]}")
+        line = self.alone(text)[0]
+        for given, expected in ((b"", []), (b"end\n", [b""]), (text, [text]), (text + b"end\n", [text]),
+                                (text + b"end\n" + text, [text, text]), (text + b"end", [text + b"end"]),
+                                (text + b"end \nend\n", [text + b"end \n"]), (b"\nend\n" + text, [b"\n", text])):
+            self.assertEqual(self.many(given)[0], [self.alone(trace)[0] for trace in expected], given[-20:])
+        self.assertEqual(self.many(b"")[1], 0)
+        self.assertEqual(json.loads(self.many(b"end\n" + text)[0][0])["fault"]["kind"], "header")
+        self.assertEqual(self.many(b"end\n" + text)[0][1], line)
+        self.assertEqual(self.many(b"end\n" + text)[1], 2)
+
+    def test_an_answer_comes_before_the_next_trace(self):
+        text = content(f"{DATA}/{traces('kernel')[0]}")
+        words = [*LAB, "judge", "--many", "--json"]
+        with subprocess.Popen(words, stdin=subprocess.PIPE, stdout=subprocess.PIPE) as process:
+            for _ in range(3):
+                process.stdin.write(text + b"end\n")
+                process.stdin.flush()
+                self.assertEqual(process.stdout.readline().decode(), self.alone(text)[0])
+            process.stdin.close()
+            self.assertEqual(process.stdout.read(), b"")
+
+    def test_other_words(self):
+        for words in (["--many"], ["--many", "--json", "--case", "file"], ["--many", "--many", "--json"]):
+            self.assertEqual(run(["judge", *words], b""), ("bad usage\n", 3))
+
+    def test_a_full_device(self):
+        text = content(f"{DATA}/{traces('kernel')[0]}")
+        with open("/dev/full", "wb") as full:
+            ran = subprocess.run([*LAB, "judge", "--many", "--json"], input=text + b"end\n" + text, stdout=full,
+                                 stderr=subprocess.PIPE, check=False, timeout=60)
+        self.assertEqual((ran.returncode, ran.stderr.count(b"\n")), (5, 1))
+
+
 if __name__ == "__main__":
     unittest.main()

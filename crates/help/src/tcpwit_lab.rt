@@ -82,6 +82,11 @@ pub(crate) static TCPWIT_LAB: CommandLine = CommandLine {
                     help: "Writes the case of the last level tried to FILE",
                 },
                 JSON,
+                Argument {
+                    name: "many",
+                    form: Form::Flag,
+                    help: "Judges many traces, each ended by a line `end`; needs --json",
+                },
             ],
             after: JUDGE,
         },
@@ -169,7 +174,8 @@ refused step is red.";
 
 const JUDGE_USAGE: &str = "\
 tcpwit_lab judge [--least LEVEL] [--from LEVEL] [--slack SLACK] [--budget N]
-                        [--ways WAYS] [--expiries HOSTS] [--case FILE] [--json] < TRACE";
+                        [--ways WAYS] [--expiries HOSTS] [--case FILE] [--json] < TRACE
+       tcpwit_lab judge --many --json [OPTION].. < TRACES";
 
 const JUDGE: &str = "\
 Input: a trace. It looks for a witness at the levels `full`, `recovery` and `none`, in this order,
@@ -181,7 +187,11 @@ It judges duties, too, such as acknowledging in time: a host may be SLACK late w
 `--slack any`, they aren't judged. A trace of version 5 has a slack of its own, which is the default
 then. If a duty refuses a level, the output has the verdict without duties, too.
 
-Status: 0 if the level of --least or a stricter one has a yes, 1 if none has.";
+With --many, each trace is ended by a line `end`, and gets an object, a line, before the next one is
+read. The options count for all traces, and there is no --case.
+
+Status: 0 if the level of --least or a stricter one has a yes, 1 if none has; with --many, the
+highest of all traces.";
 
 const REMARK: &str = "\
 Input: a case. Output: a line for each remark, with the trace lines that it is about. For a no, only

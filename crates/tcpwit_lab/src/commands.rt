@@ -1,7 +1,7 @@
 //! What the program does with its standard input.
 
 use crate::output::{
-    DONE, NO, Refused, say, say_altered, say_bad_device, say_bad_memory, say_bad_replay,
+    DEVICE, DONE, NO, Refused, say, say_altered, say_bad_device, say_bad_memory, say_bad_replay,
     say_bad_trace, say_fault, say_object, say_written,
 };
 use crate::report::{JudgedReport, RemarkedReport, Report};
@@ -14,7 +14,7 @@ use replayed::Case;
 use std::alloc::{AllocError, Global};
 use std::fs::File;
 use std::io;
-use std::io::{Eprint, ErrorKind, Input, Read, Write};
+use std::io::{BufRead, Eprint, ErrorKind, Input, Read, Write};
 use std::rt::Files;
 use verdict::Verdict;
 use why::{Explanation, explain};
@@ -28,6 +28,9 @@ pub(crate) fn run<H: Files + Eprint + Input, W: Write>(
     asked: Asked<'_>,
     w: &mut Counted<W>,
 ) -> u8 {
+    if let Asked::JudgeMany(judging) = asked {
+        return judge_many(rt, alloc, judging, w);
+    }
     let mut text = Vec::new(alloc);
     match rt.reader().read_to_end(&mut text) {
         Ok(_) => write_answer(rt, alloc, asked, text.as_slice(), w),
@@ -36,6 +39,53 @@ pub(crate) fn run<H: Files + Eprint + Input, W: Write>(
         }
         Err(error) => say_bad_device(rt, asked.form(), "standard input", &error, w),
     }
+}
+
+// Judges the traces of standard input, each ended by a line `end`, and writes an object for each before the next one is
+// read. The status is the highest of their statuses; the first failed read or write ends the run.
+fn judge_many<H: Files + Eprint + Input, W: Write>(
+    rt: &H,
+    alloc: Global,
+    judging: Judging<'_>,
+    w: &mut Counted<W>,
+) -> u8 {
+    let mut reader = rt.reader();
+    let mut text = Vec::new(alloc);
+    let mut highest = DONE;
+    for _ in 0..u64::MAX {
+        match read_trace(&mut reader, &mut text) {
+            Ok(true) => {
+                let trace = text.as_slice();
+                highest = highest.max(write_judgement(rt, alloc, judging, Form::Json, trace, w));
+            }
+            Ok(false) => break,
+            Err(error) if error.kind() == ErrorKind::OutOfMemory => {
+                return say_bad_memory(rt, Form::Json, w);
+            }
+            Err(error) => return say_bad_device(rt, Form::Json, "standard input", &error, w),
+        }
+        if highest == DEVICE {
+            break;
+        }
+    }
+    highest
+}
+
+// Reads the next trace into `text`: the lines before the next line `end`, or all that are left. Returns whether there
+// is one.
+fn read_trace<R: BufRead>(reader: &mut R, text: &mut Vec<u8>) -> io::Result<bool> {
+    text.clear();
+    for _ in 0..u64::MAX {
+        let begin = text.len();
+        if reader.read_until(b'\n', text)? == 0 {
+            break;
+        }
+        if text.get(begin..) == Some(b"end\n".as_slice()) {
+            text.truncate(begin);
+            return Ok(true);
+        }
+    }
+    Ok(!text.is_empty())
 }
 
 // Does what is asked for with a text.
@@ -56,6 +106,7 @@ fn write_answer<H: Files + Eprint, W: Write>(
             Err(fault) => say_bad_replay(rt, form, fault, w),
         },
         Asked::Judge(judging, form) => write_judgement(rt, alloc, judging, form, text, w),
+        Asked::JudgeMany(judging) => write_judgement(rt, alloc, judging, Form::Json, text, w),
         Asked::Show | Asked::Draw(_) | Asked::Remark(_) => match Case::read(alloc, text) {
             Ok(case) => write_case(rt, alloc, asked, &case, w),
             Err(fault) => say_fault(rt, alloc, asked.form(), Refused::Trace, &fault, w),
@@ -97,9 +148,11 @@ fn write_case<H: Eprint, W: Write>(
             },
             Err(fault) => say_fault(rt, alloc, form, Refused::Witness, fault, w),
         },
-        Asked::Show | Asked::Find(_) | Asked::Explain(..) | Asked::Judge(..) => {
-            write_text(rt, show(alloc, case), w)
-        }
+        Asked::Show
+        | Asked::Find(_)
+        | Asked::Explain(..)
+        | Asked::Judge(..)
+        | Asked::JudgeMany(_) => { write_text(rt, show(alloc, case), w) }
     }
 }
 

@@ -29,7 +29,7 @@ pub(crate) const USAGE: u8 = 3;
 const MEMORY: u8 = 4;
 
 /// A file or a stream can't be opened, read or written.
-const DEVICE: u8 = 5;
+pub(crate) const DEVICE: u8 = 5;
 
 /// Writes a text. The status is this one, or 5 if a write failed; standard error then has the reason.
 pub(crate) fn say<H: Eprint, W: Write>(rt: &H, w: &mut Counted<W>, text: &[u8], status: u8) -> u8 {

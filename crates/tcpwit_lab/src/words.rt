@@ -20,7 +20,7 @@ pub(crate) enum Request<'w> {
     Unknown,
 }
 
-/// What is done with the text of standard input.
+/// What is done with the text, or the texts, of standard input.
 #[derive(Clone, Copy)]
 pub(crate) enum Asked<'w> {
     Find(SearchOptions),
@@ -29,6 +29,8 @@ pub(crate) enum Asked<'w> {
     Show,
     Draw(Range),
     Judge(Judging<'w>, Form),
+    /// To judge many texts, each ended by a line `end`.
+    JudgeMany(Judging<'w>),
     Remark(Form),
 }
 
@@ -46,6 +48,7 @@ impl Asked<'_> {
     pub(crate) fn form(&self) -> Form {
         match self {
             Asked::Explain(_, form) | Asked::Judge(_, form) | Asked::Remark(form) => *form,
+            Asked::JudgeMany(_) => Form::Json,
             Asked::Find(_) | Asked::Show | Asked::Draw(_) => Form::Lines,
         }
     }
@@ -80,7 +83,7 @@ fn asked_by<'w>(words: &[&'w str]) -> Option<Asked<'w>> {
     };
     match (*subcommand, options) {
         ("find", _) => Some(Asked::Find(find_options(options)?)),
-        ("judge", _) => Some(Asked::Judge(judging_of(options)?, form_of(options))),
+        ("judge", _) => judge_asked(options),
         ("draw", _) => Some(Asked::Draw(range_of(options)?)),
         ("explain", _) => Some(Asked::Explain(origin_of(options)?, form_of(options))),
         ("show", []) => Some(Asked::Show),
@@ -93,6 +96,8 @@ fn asked_by<'w>(words: &[&'w str]) -> Option<Asked<'w>> {
 const JSON: &str = "--json";
 
 const SIMULATED: &str = "--simulated";
+
+const MANY: &str = "--many";
 
 // How `--json` or its absence lets an answer be written.
 fn form_of(options: &[&str]) -> Form {
@@ -144,9 +149,19 @@ fn search_options(options: &[&str]) -> Option<SearchOptions> {
     })
 }
 
+// What the options of `judge` ask for. `--many` wants `--json` and no `--case`. None: other words.
+fn judge_asked<'w>(options: &[&'w str]) -> Option<Asked<'w>> {
+    let judging = judging_of(options)?;
+    match (value_of(options, MANY), form_of(options), judging.case) {
+        (None, form, _) => Some(Asked::Judge(judging, form)),
+        (Some(_), Form::Json, None) => Some(Asked::JudgeMany(judging)),
+        (Some(_), _, _) => None,
+    }
+}
+
 // What `--least LEVEL`, `--from LEVEL`, `--slack SLACK`, `--case FILE` and the options of a search ask for, in any
-// order and each at most once; `--json` may be among them. LEVEL is `full`, `recovery` or `none`. Without `--from`, the
-// first level is that of `--least`. FILE isn't empty. None: other words, or a first level that is laxer.
+// order and each at most once; `--json` and `--many` may be among them. LEVEL is `full`, `recovery` or `none`. Without
+// `--from`, the first level is that of `--least`. FILE isn't empty. None: other words, or a first level that is laxer.
 fn judging_of<'w>(options: &[&'w str]) -> Option<Judging<'w>> {
     let names = [
         "--least",
@@ -157,6 +172,7 @@ fn judging_of<'w>(options: &[&'w str]) -> Option<Judging<'w>> {
         "--ways",
         "--expiries",
         JSON,
+        MANY,
     ];
     if !are_options(options, &names) {
         return None;
@@ -255,7 +271,7 @@ fn number_of(digits: &str) -> Option<u64> {
     digits.parse::<u64>().ok()
 }
 
-// Whether these words are options with these names, in any order and each at most once. Each but `--json` and
+// Whether these words are options with these names, in any order and each at most once. Each but `--json`, `--many` and
 // `--simulated` has a value: the next word, which doesn't begin with `-`, or what follows `=` in the same word.
 fn are_options(words: &[&str], names: &[&str]) -> bool {
     let mut at: usize = 0;
@@ -287,7 +303,7 @@ fn value_of<'w>(words: &[&'w str], name: &str) -> Option<&'w str> {
 
 // Whether an option has no value.
 fn is_flag(name: &str) -> bool {
-    name == JSON || name == SIMULATED
+    name == JSON || name == SIMULATED || name == MANY
 }
 
 // The name and the value of the option at a place, and the place after both. None: no word is there, or it has no
