@@ -2,9 +2,14 @@
 import argparse
 import errno
 import os
+import signal
 import subprocess
 import sys
 import traceback
+
+
+class Terminated(BaseException):
+    """SIGTERM came."""
 
 
 class Problem(Exception):
@@ -90,6 +95,8 @@ def status_of(command, act):
         say(command, str(error), "check whether the programs can be run")
     except KeyboardInterrupt:
         return 130
+    except Terminated:
+        return 128 + signal.SIGTERM
     except Exception as error:
         # Python's own status would be 1, the status of a no.
         say(command, f"{type(error).__name__}: {error} ({place_of(error)})",

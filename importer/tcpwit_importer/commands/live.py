@@ -182,7 +182,8 @@ class Pool:
             self.places.decide([connection])
         self.number += 1
         connection.fragmented = self.judges.is_fragmented(connection)
-        self.waiting.add(self.pool.submit(self.judges.result, self.number, connection, moment))
+        self.waiting.add(self.pool.submit(workers.ending, self.judges.result, self.number, connection,
+                                         moment))
         while len(self.waiting) > 2 * self.jobs:
             self.collect(None)
 

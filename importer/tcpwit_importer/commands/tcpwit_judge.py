@@ -21,7 +21,7 @@ from .live import Pool, Reader, Stream, watch
 from .options import add_first_level, number_within, refuse_laxer, slack
 from .output import Output
 from .verdicts import Judge
-from .workers import results
+from .workers import Results, terminating
 
 COMMAND, STANDARD_INPUT = "tcpwit-judge", "-"
 DESCRIPTION = """Judges the TCP connections of captures, without a log of the programs' calls.
@@ -198,8 +198,9 @@ def judge_files(options, program, notes):
             notes.say(f"{said(judges.clock)} (host 0 is that of {captures[0].name})")
         output = Output(options, [str(connection) for connection in connections])
         # On a terminal, a line that is updated would disturb the verdicts.
-        with contextlib.closing(results(judges, connections, options.jobs)) as found, \
-                Part("judging the connections", len(connections), lambda: output.count, sys.stdout.isatty()):
+        results = Results(judges, connections, options.jobs)
+        with contextlib.closing(results.in_order()) as found, \
+                Part("judging", len(connections), lambda: results.done, sys.stdout.isatty(), "connection"):
             for result in found:
                 output.add(result)
                 notes.add(result.notes)
@@ -239,4 +240,5 @@ def main(words=None):
     """Runs the command and returns its exit status."""
     options = parser().parse_args(words)
     Part.command = None if options.quiet else COMMAND
-    return status_of(COMMAND, lambda: judge(options))
+    with terminating():
+        return status_of(COMMAND, lambda: judge(options))

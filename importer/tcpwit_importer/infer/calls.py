@@ -182,15 +182,16 @@ class Calls:
 
     def receive(self, packet, acknowledged):
         """The program received what its host acknowledges."""
-        limits = [acknowledged, self.arrived.reached] + ([] if self.peer.conflict is None else [self.peer.conflict])
-        stop, after = min(limits), self.at(packet, AFTER)
-        if stop > self.received and self.usable(after, packet):
+        stop = min(acknowledged, self.arrived.reached)
+        if self.peer.conflict is not None:
+            stop = min(stop, self.peer.conflict)
+        if stop > self.received and self.usable(after := self.at(packet, AFTER), packet):
             for start in range(self.received, stop, LONGEST):
                 data = Data(b"", self.socket, start, min(LONGEST, stop - start), False)
                 self.script.call(after, after, "receives", "recv", self.socket, (LONGEST,), ("data", data))
             self.received = stop
         has_all = self.received == self.arrived.last and acknowledged == self.received + 1
-        if not self.at_end and has_all and self.usable(after, packet):
+        if has_all and not self.at_end and self.usable(after := self.at(packet, AFTER), packet):
             self.at_end = True
             self.script.call(after, after, "receives", "recv", self.socket, (LONGEST,), ("eof",))
 

@@ -3,13 +3,22 @@
 Each line of a call has a place: before or after the line of a segment, at its moment; or a moment of its own.
 """
 from array import array
-from itertools import count
+from typing import Any, NamedTuple
 
 from ..capture.offloads import Flow
-from ..trace.endpoints import Action, Endpoint
-from ..trace.lines import LAST_CALL, Line, Writer
+from ..trace.endpoints import Endpoint
+from ..trace.lines import LAST_CALL, THREADS, Writer
 
 BEFORE, AFTER = 0, 1
+
+
+class Call(NamedTuple):
+    """An inferred call. Its fields are those of an `Action` without moments."""
+    thread: Any
+    verb: str
+    endpoint: Any
+    words: tuple
+    answer: tuple
 
 
 class Script:
@@ -19,7 +28,7 @@ class Script:
 
     def __init__(self):
         self.ignored, self.expiries = set(), {}
-        self.endpoints, self.lines, self.moments, self.orders = [], {}, [], count()
+        self.endpoints, self.lines, self.moments, self.threads = [], {}, [], {}
 
     def moment(self, host, moment):
         """A place that is a moment of a host's clock."""
@@ -36,10 +45,13 @@ class Script:
 
     def call(self, begin, end, thread, verb, endpoint, words=(), answer=("ok",)):
         """A call that begins at a place and ends there or at a later one."""
-        order = next(self.orders)
-        action = Action(0, 0, (endpoint.host, thread), verb, endpoint, words, answer, order, (order, 0))
-        self.lines.setdefault(begin, []).append((action, True))
-        self.lines.setdefault(end, []).append((action, False))
+        thread = endpoint.host, thread
+        call = Call(self.threads.setdefault(thread, thread), verb, endpoint, words, answer)
+        for place, begins in ((begin, True), (end, False)):
+            if place in self.lines:
+                self.lines[place].append((call, begins))
+            else:
+                self.lines[place] = [(call, begins)]
 
 
 class InferredCase:
@@ -62,52 +74,55 @@ class InferredWriter(Writer):
         """All lines in order, with numbers and threads."""
         for endpoint in self.case.endpoints:
             self.numbers[id(endpoint)] = len(self.numbers) + 1
-        last = 0
-        for line, packet in self.in_order():
-            self.start, last = line.moment - 10**9 if self.start is None else self.start, line.moment
-            time = (line.moment - self.start) // 1000
-            self.note(packet, line.text, time)
-            yield f"{time} {self.thread(line.thread)} {line.text}\n"
-        for text in LAST_CALL if self.start is not None else ():
+        last = None
+        for last, packet, rows in self.in_order():
+            if self.start is None:
+                self.start = last - 10**9
+            time = (last - self.start) // 1000
+            for thread, text in rows:
+                self.packets.append(packet)
+                self.letters.append(ord(text[0]))
+                self.times.append(time)
+                yield f"{time} {thread} {text}\n"
+        for text in LAST_CALL if last is not None else ():
             yield f"{(max(last, self.end) - self.start) // 1000} {self.thread(LAST_CALL)} {text}\n"
 
-    def note(self, packet, text, time):
-        """Notes what the next line shows."""
-        self.packets.append(packet)
-        self.letters.append(ord(text[0]))
-        self.times.append(time)
-
     def in_order(self):
-        """The lines of segments, each with its packet and between those of calls."""
-        flows = {id(connection): Flow(connection, self.notes, self.both) for connection in self.case.connections}
-        moments = sorted(((self.moment(*place), place) for place in self.script.moments), reverse=True)
-        for line, connection, packet in self.ordered():
-            letter, host, moment = line
-            if letter == "I" and id(packet) in self.script.ignored:
+        """The lines of segments, between those of calls: moments, the packet, and the threads and texts of its
+        lines."""
+        flow, script = Flow(self.case.connections[0], self.notes, self.both), self.script
+        moments = sorted(((self.moment(*place), place) for place in script.moments), reverse=True)
+        for (letter, host, moment), _, packet in self.ordered():
+            if letter == "I" and id(packet) in script.ignored:
                 continue
             while moments and moments[-1][0] <= moment:
                 earlier, place = moments.pop()
-                yield from self.calls_at(place, earlier)
-            yield from self.calls_at((letter, host, id(packet), BEFORE), moment)
-            yield from ((piece, packet) for piece in self.pieces(flows[id(connection)], line, packet))
-            yield from self.calls_at((letter, host, id(packet), AFTER), moment)
+                yield earlier, None, self.calls_at(place)
+            if rows := self.calls_at((letter, host, id(packet), BEFORE)):
+                yield moment, None, rows
+            thread = THREADS[letter, host]
+            yield moment, packet, [(thread, text) for text in self.texts(flow, letter, host, packet)]
+            if rows := self.calls_at((letter, host, id(packet), AFTER)):
+                yield moment, None, rows
 
-    def calls_at(self, place, moment):
-        """The lines of the calls at a place."""
-        for action, begins in self.script.lines.get(place, ()):
-            yield Line(moment, action.thread, self.begin_text(action) if begins else self.end_text(action)), None
-        if place in self.script.expiries:
-            yield Line(moment, "expiries", self.script.expiries[place]), None
+    def calls_at(self, place):
+        """The threads and texts of the calls at a place, which are then forgotten."""
+        script = self.script
+        rows = [(self.thread(call.thread), self.begin_text(call) if begins else self.end_text(call))
+                for call, begins in script.lines.pop(place, ())]
+        if place in script.expiries:
+            rows.append((self.thread("expiries"), script.expiries[place]))
+        return rows
 
-    def begin_text(self, action):
+    def begin_text(self, call):
         """The words of a call's beginning. In a simultaneous open, the second end opens, too."""
-        endpoint = action.endpoint
-        if action.verb == "open":
+        endpoint = call.endpoint
+        if call.verb == "open":
             own = endpoint.local
             return f"B open {endpoint.host} {own[1]} {endpoint.connection.other(own)[1]}"
-        return super().begin_text(action)
+        return super().begin_text(call)
 
-    def bytes_of(self, data, connection):
+    def hex_of(self, data, connection):
         """The bytes of a call. In a simultaneous open, the second end opens, too."""
         own = data.endpoint.local
-        return self.streams[own if data.sends else connection.other(own)].bytes_of(data.offset, data.length)
+        return self.streams[own if data.sends else connection.other(own)].hex_of(data.offset, data.length)

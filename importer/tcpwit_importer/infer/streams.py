@@ -4,22 +4,20 @@ from bisect import bisect_left
 
 from ..capture.segments import FIN, RST, SYN, WRAP
 
+HALF = WRAP // 2
+
 
 class Stream:
     """The bytes of one end. If several segments have a byte, the first one counts.
 
-    `spans` has the parts that captures have: where each begins, and its bytes. `last` is the offset of the FIN,
-    `conflict` that of the first byte that two segments have differently; None if there is none.
+    `spans` has the parts that captures have: where each begins, and its bytes. `end` is the offset after the last byte.
+    `last` is the offset of the FIN, `conflict` that of the first byte that two segments have differently; None if there
+    is none.
     """
 
     def __init__(self, first):
-        self.first, self.spans = first, []
+        self.first, self.spans, self.end = first, [], 0
         self.last = self.conflict = None
-
-    @property
-    def end(self):
-        """The offset after the last byte."""
-        return self._stop(-1) if self.spans else 0
 
     def offset(self, packet):
         """The offset of a segment's first byte; negative if it begins before the stream, as a keep-alive may."""
@@ -32,7 +30,7 @@ class Stream:
     def _near(self, number):
         """The offset with this sequence number that is nearest to the end."""
         distance = (number - self.first - 1 - self.end) % WRAP
-        return self.end + distance - (WRAP if distance >= WRAP // 2 else 0)
+        return self.end + distance - (WRAP if distance >= HALF else 0)
 
     def add(self, packet):
         """Adds the bytes of a segment that this end sent."""
@@ -46,6 +44,10 @@ class Stream:
 
     def _put(self, offset, payload):
         """Writes the bytes that aren't known yet, and compares the others."""
+        if self.spans and offset == self.end:
+            self.spans[-1][1].extend(payload)
+            self.end += len(payload)
+            return
         end, place = offset + len(payload), self._place(offset)
         if place == len(self.spans) or self.spans[place][0] > offset:
             self.spans.insert(place, (offset, bytearray()))
@@ -54,6 +56,7 @@ class Stream:
         data += payload[start + len(data) - offset:]
         while place + 1 < len(self.spans) and self.spans[place + 1][0] <= end:
             self._join(place)
+        self.end = self._stop(-1)
 
     def _place(self, offset):
         """The place of the first span that reaches an offset or is after it. Packets cut short leave many spans, so
@@ -87,6 +90,13 @@ class Stream:
         place = self._place(start)
         return start >= stop or (place < len(self.spans) and self.spans[place][0] <= start
                                  and stop <= self._stop(place))
+
+    def hex_of(self, offset, length):
+        """The digits of bytes of the stream."""
+        if len(self.spans) == 1 and self.spans[0][0] <= offset and offset + length <= self.end:
+            start, data = self.spans[0]
+            return data[offset - start:offset - start + length].hex()
+        return self.bytes_of(offset, length).hex()
 
     def bytes_of(self, offset, length):
         """Bytes of the stream; zeros for those that no capture has."""
