@@ -38,10 +38,10 @@ class Packet:
                  identification=0, interface=None, lifetime=None):
         self.moment, self.captured, self.source, self.target = moment, moment, source, target
         if missing:
-            segment += bytes(missing)
+            segment = bytes(segment) + bytes(missing)
         self.number, self.acknowledgment, head, self.flags, self.checksum = _FIELDS(segment)
         self.size = len(segment) - (head >> 4) * 4
-        self.segment, self.outgoing = segment[:16] + b"\0\0" + segment[18:], outgoing
+        self.segment, self.outgoing = b"".join((segment[:16], b"\0\0", segment[18:])), outgoing
         self.capture, self.count = capture, count
         self.missing, self.offset = missing, offset
         self.identification, self.lifetime, self.interface = identification, lifetime, interface

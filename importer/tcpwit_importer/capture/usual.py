@@ -137,8 +137,12 @@ def packet_of(name, block, record, usual, ends, offset, count):
     _, start, stop, _, _, identification, lifetime, own_interface, sent = usual
     if own_interface is not None:
         interface = own_interface
-    return Packet(moment, *ends, block[start:min(stop, end)], sent, name, count, max(0, stop - end), offset,
-                  identification, interface, lifetime)
+    if stop > end:
+        missing, stop = stop - end, end
+    else:
+        missing = 0
+    segment = memoryview(block)[start:stop]
+    return Packet(moment, *ends, segment, sent, name, count, missing, offset, identification, interface, lifetime)
 
 
 def ends_of(ends):

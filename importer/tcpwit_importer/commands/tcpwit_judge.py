@@ -17,7 +17,7 @@ from ..remedies import NOTHING_SENT, WIDER
 from ..trace import header as headers
 from . import lab
 from .annotated import annotate
-from .live import Pool, Reader, Stream, watch
+from .live import Pool, Reader, Stream, standard_input, watch
 from .options import add_first_level, number_within, refuse_laxer, slack
 from .output import Output
 from .verdicts import Judge
@@ -163,7 +163,7 @@ def judge_live(options, program, notes):
     capture, output = Capture("standard input", None), Output(options)
     judges = Judge(program, {capture.name: capture}, OneCapture(capture, options.host), options, header_values(options))
     idle = options.idle or 2 * (options.msl or headers.VALUES["msl"]) // 10**6
-    reader = Reader(capture, sys.stdin.buffer, notes)
+    reader = Reader(capture, standard_input(), notes)
     places = places_of(options, [capture])
     with contextlib.closing(Pool(judges, options.jobs, output, notes, places)) as pool:
         watch(reader, Stream(capture, pool.judge, idle * 10**9, options.memory * 10**6), pool)

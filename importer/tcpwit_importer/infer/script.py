@@ -21,6 +21,14 @@ class Call(NamedTuple):
     answer: tuple
 
 
+class Sending(NamedTuple):
+    """A call that sends bytes of its end, from an offset on. A connection has many."""
+    thread: Any
+    endpoint: Any
+    offset: int
+    length: int
+
+
 class Script:
     """The calls of a connection's hosts. A place is a side of a segment's line, which has a letter, a host and a
     packet; or a host and a moment. `ignored` has the packets, by their identities, that the server seems to have
@@ -28,7 +36,7 @@ class Script:
 
     def __init__(self):
         self.ignored, self.expiries = set(), {}
-        self.endpoints, self.lines, self.moments, self.threads = [], {}, [], {}
+        self.endpoints, self.lines, self.moments = [], {}, []
 
     def moment(self, host, moment):
         """A place that is a moment of a host's clock."""
@@ -45,13 +53,19 @@ class Script:
 
     def call(self, begin, end, thread, verb, endpoint, words=(), answer=("ok",)):
         """A call that begins at a place and ends there or at a later one."""
-        thread = endpoint.host, thread
-        call = Call(self.threads.setdefault(thread, thread), verb, endpoint, words, answer)
-        for place, begins in ((begin, True), (end, False)):
-            if place in self.lines:
-                self.lines[place].append((call, begins))
-            else:
-                self.lines[place] = [(call, begins)]
+        self.add(begin, end, Call((endpoint.host, thread), verb, endpoint, words, answer))
+
+    def add(self, begin, end, call):
+        """Adds a call at the places where it begins and ends."""
+        lines = self.lines
+        if begin in lines:
+            lines[begin].append((call, True))
+        else:
+            lines[begin] = [(call, True)]
+        if end in lines:
+            lines[end].append((call, False))
+        else:
+            lines[end] = [(call, False)]
 
 
 class InferredCase:
@@ -62,67 +76,88 @@ class InferredCase:
 
 
 class InferredWriter(Writer):
-    """Writes the trace of a connection whose calls were inferred. `streams` has the bytes of each end."""
+    """Writes the trace of a connection whose calls were inferred, and whose packets are in order. `streams` has the
+    bytes of each end."""
 
     def __init__(self, connection, script, streams, captures, clock, end, notes):
         super().__init__(InferredCase(connection, script.endpoints), captures, clock, end, notes)
-        self.script, self.streams = script, streams
+        self.connection, self.script, self.streams = connection, script, streams
         # Of each line: its packet, None for a call; its letter; its time. `start` is the moment of time 0.
         self.packets, self.letters, self.times, self.start = [], bytearray(), array("q"), None
 
     def lines(self):
-        """All lines in order, with numbers and threads."""
+        """All lines in order, with numbers and threads: those of segments, between those of calls."""
         for endpoint in self.case.endpoints:
             self.numbers[id(endpoint)] = len(self.numbers) + 1
-        last = None
-        for last, packet, rows in self.in_order():
-            if self.start is None:
-                self.start = last - 10**9
-            time = (last - self.start) // 1000
-            for thread, text in rows:
-                self.packets.append(packet)
-                self.letters.append(ord(text[0]))
-                self.times.append(time)
-                yield f"{time} {thread} {text}\n"
-        for text in LAST_CALL if last is not None else ():
-            yield f"{(max(last, self.end) - self.start) // 1000} {self.thread(LAST_CALL)} {text}\n"
-
-    def in_order(self):
-        """The lines of segments, between those of calls: moments, the packet, and the threads and texts of its
-        lines."""
-        flow, script = Flow(self.case.connections[0], self.notes, self.both), self.script
-        moments = sorted(((self.moment(*place), place) for place in script.moments), reverse=True)
+        flow, ignored = Flow(self.connection, self.notes, self.both), self.script.ignored
+        moments, moment = sorted(((self.moment(*place), place) for place in self.script.moments), reverse=True), None
         for (letter, host, moment), _, packet in self.ordered():
-            if letter == "I" and id(packet) in script.ignored:
+            if letter == "I" and id(packet) in ignored:
                 continue
             while moments and moments[-1][0] <= moment:
                 earlier, place = moments.pop()
-                yield earlier, None, self.calls_at(place)
-            if rows := self.calls_at((letter, host, id(packet), BEFORE)):
-                yield moment, None, rows
-            thread = THREADS[letter, host]
-            yield moment, packet, [(thread, text) for text in self.texts(flow, letter, host, packet)]
-            if rows := self.calls_at((letter, host, id(packet), AFTER)):
-                yield moment, None, rows
+                yield from self.calls_at(place, earlier)
+            yield from self.calls_at((letter, host, id(packet), BEFORE), moment)
+            time = self.time(moment)
+            head = f"{time} {THREADS[letter, host]} {letter} {host}"
+            for digits in self.digits(flow, letter, packet):
+                self.note(packet, letter, time)
+                yield f"{head} {digits}\n"
+            yield from self.calls_at((letter, host, id(packet), AFTER), moment)
+        for text in LAST_CALL if self.start is not None else ():
+            yield f"{self.time(max(moment, self.end))} {self.thread(LAST_CALL)} {text}\n"
 
-    def calls_at(self, place):
-        """The threads and texts of the calls at a place, which are then forgotten."""
-        script = self.script
-        rows = [(self.thread(call.thread), self.begin_text(call) if begins else self.end_text(call))
-                for call, begins in script.lines.pop(place, ())]
-        if place in script.expiries:
-            rows.append((self.thread("expiries"), script.expiries[place]))
-        return rows
+    def captured(self, host, name):
+        """The segments of one capture."""
+        if host is None:
+            yield from super().captured(host, name)
+            return
+        latest, hosts = 0, self.connection.hosts
+        for packet in self.connection.seen.get(name, ()):
+            moment = self.clock.at(packet.moment) if host == 1 else packet.moment
+            latest = moment if moment > latest else latest
+            yield ("O" if hosts[packet.source] == host else "I", host, latest), self.connection, packet
 
-    def begin_text(self, call):
+    def time(self, moment):
+        """A moment as a time of the trace, whose first line has a second."""
+        if self.start is None:
+            self.start = moment - 10**9
+        return (moment - self.start) // 1000
+
+    def note(self, packet, letter, time):
+        """Notes what the next line shows."""
+        self.packets.append(packet)
+        self.letters.append(ord(letter))
+        self.times.append(time)
+
+    def calls_at(self, place, moment):
+        """The lines of the calls at a place, which are then forgotten."""
+        script, lines = self.script, []
+        for call, begins in script.lines.pop(place, ()):
+            time, thread = self.time(moment), self.threads.get(call.thread) or self.thread(call.thread)
+            self.note(None, "B" if begins else "E", time)
+            lines.append(f"{time} {thread} {self.begin_text(call) if begins else self.end_text(call)}\n")
+        if script.expiries and place in script.expiries:
+            time = self.time(moment)
+            self.note(None, "T", time)
+            lines.append(f"{time} {self.thread('expiries')} {script.expiries[place]}\n")
+        return lines
+
+    def begin_text(self, action):
         """The words of a call's beginning. In a simultaneous open, the second end opens, too."""
-        endpoint = call.endpoint
-        if call.verb == "open":
+        endpoint = action.endpoint
+        if isinstance(action, Sending):
+            digits = self.streams[endpoint.local].hex_of(action.offset, action.length)
+            return f"B send {self.numbers[id(endpoint)]} {digits}"
+        if action.verb == "open":
             own = endpoint.local
             return f"B open {endpoint.host} {own[1]} {endpoint.connection.other(own)[1]}"
-        return super().begin_text(call)
+        return super().begin_text(action)
+
+    def end_text(self, action):
+        """The words of a call's end."""
+        return f"E ok {action.length}" if isinstance(action, Sending) else super().end_text(action)
 
     def hex_of(self, data, connection):
-        """The bytes of a call. In a simultaneous open, the second end opens, too."""
-        own = data.endpoint.local
-        return self.streams[own if data.sends else connection.other(own)].hex_of(data.offset, data.length)
+        """The bytes that a call receives. In a simultaneous open, the second end opens, too."""
+        return self.streams[connection.other(data.endpoint.local)].hex_of(data.offset, data.length)

@@ -21,7 +21,7 @@ class Stream:
 
     def offset(self, packet):
         """The offset of a segment's first byte; negative if it begins before the stream, as a keep-alive may."""
-        return self._near(packet.number + bool(packet.flags & SYN))
+        return self._near(packet.number + 1 if packet.flags & SYN else packet.number)
 
     def acknowledged(self, packet):
         """The offset up to which a segment of the other end acknowledges bytes and the FIN."""

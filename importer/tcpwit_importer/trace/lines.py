@@ -149,17 +149,17 @@ class Writer:
         """The lines of all captured segments, in the order of each capture."""
         flows = {id(connection): Flow(connection, self.notes, self.both) for connection in self.case.connections}
         for (letter, host, moment), connection, packet in self.ordered():
-            for text in self.texts(flows[id(connection)], letter, host, packet):
-                yield Line(moment, THREADS[letter, host], text)
+            for digits in self.digits(flows[id(connection)], letter, packet):
+                yield Line(moment, THREADS[letter, host], f"{letter} {host} {digits}")
 
     @staticmethod
-    def texts(flow, letter, host, packet):
-        """The words of a captured segment: as many lines as segments on the wire."""
+    def digits(flow, letter, packet):
+        """The digits of the segments that a captured segment had on the wire."""
         pieces = flow.went_out(packet) if letter == "O" else flow.came_in(packet)
         if (longest := max(map(len, pieces))) > LONGEST_SEGMENT:
             raise Problem(f"{packet.place}: a segment of {longest} bytes", OFFLOADS_OFF,
                           f"use --kernel plain for a pair; else {OFFLOADS_OFF}")
-        return [f"{letter} {host} {piece.hex()}" for piece in pieces]
+        return [piece.hex() for piece in pieces]
 
     def ordered(self):
         """Segments with letter, host and moment. Segments sent precede those that the other host received at the same
