@@ -20,7 +20,7 @@ class Connection:
         self.client, self.server, self.begun = client, server, begun
         self.seen, self.initial, self.sizes = {}, {}, {}
         self.whole = True
-        self.claimed = set()
+        self.claimed = ()
         self.hosts = {}
         self._streams = {}
 
@@ -194,7 +194,7 @@ class Table:
 
     def add(self, packet):
         """Adds the next packet to its connection, which is returned."""
-        pair = frozenset((packet.source, packet.target))
+        pair = min(packet.source, packet.target), max(packet.source, packet.target)
         connection = self.current.get(pair)
         if not continues(connection, packet):
             key = (packet.source, packet.target, packet.number) if packet.is_syn else (pair, self.name)

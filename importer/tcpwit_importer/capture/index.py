@@ -36,35 +36,39 @@ class Indexed(Connection):
     def __init__(self, client, server, begun):
         super().__init__(client, server, begun)
         self.places, self.syns, self.own = {}, {}, {}
-        self.fragmented, self.others, self.ends, self.senders = False, 0, set(), set()
+        self.fragmented, self.others, self.ends, self.senders = False, 0, (), ()
         self.signs, self.place = Signs(), None
 
     def add(self, capture, packet):
         """Adds the next packet of a capture."""
-        offsets, counts = self.places.setdefault(capture, (array("Q"), array("Q")))
+        if capture not in self.places:
+            self.places[capture] = array("Q"), array("Q")
+        offsets, counts = self.places[capture]
         offsets.append(packet.offset)
         counts.append(packet.count)
-        self.senders.add(packet.source)
-        self.signs.add(packet, packet.source == self.client)
+        is_client = packet.source == self.client
+        source = self.client if is_client else self.server
+        self.signs.add(packet, is_client)
+        self.senders = with_end(self.senders, source)
         self.others += not packet.flags & (SYN | RST)
         if packet.flags & RST:
             self.ends = None
         elif packet.flags & FIN and self.ends is not None:
-            self.ends.add(packet.source)
+            self.ends = with_end(self.ends, source)
         if packet.outgoing is not None:
-            self.own.setdefault(capture, set()).add(packet.source if packet.outgoing else packet.target)
+            self.own.setdefault(capture, set()).add(source if packet.outgoing else self.other(source))
         if packet.flags & SYN:
-            self.initial.setdefault(packet.source, packet.number)
+            self.initial.setdefault(source, packet.number)
             syns = self.syns.setdefault(capture, {})
             if len(syns) < SYNS:
-                syns.setdefault((packet.source, packet.segment[:16]), packet.moment)
+                syns.setdefault((source, packet.segment[:16]), packet.moment)
 
     def join(self, other):
         """Adds what the other capture has of it."""
         self.whole = self.whole and other.whole
         for own, more in ((self.places, other.places), (self.syns, other.syns), (self.own, other.own)):
             own.update(more)
-        self.senders |= other.senders
+        self.add_senders(other)
 
     def continue_with(self, other):
         """Adds packets that follow in the same captures."""
@@ -72,7 +76,12 @@ class Indexed(Connection):
             mine = self.places.setdefault(capture, (array("Q"), array("Q")))
             mine[0].extend(offsets)
             mine[1].extend(counts)
-        self.senders |= other.senders
+        self.add_senders(other)
+
+    def add_senders(self, other):
+        """Adds the senders of what is added."""
+        for source in other.senders:
+            self.senders = with_end(self.senders, source)
 
     @property
     def count(self):
@@ -87,6 +96,11 @@ class Indexed(Connection):
                 for packet in packets_again(capture, file, layouts[capture], *places):
                     connection.add(capture, packet)
         return connection
+
+
+def with_end(ends, end):
+    """Some of a connection's ends, with another one. Unlike a set, a tuple needs little memory."""
+    return ends if end in ends else (*ends, end)
 
 
 class Capture:
