@@ -41,6 +41,8 @@ def one_line(data):
 def plain(text):
     """A text with everything escaped that could control a terminal: control characters as `\\x1b`, bytes that aren't
     UTF-8 as `\\xff`."""
+    if text.isprintable():
+        return text
     return "".join(letter if letter.isprintable() else escaped(ord(letter)) for letter in text)
 
 

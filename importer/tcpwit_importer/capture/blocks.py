@@ -38,9 +38,12 @@ class Blocks:
         little if it's far away."""
         self.at = offset - self.start
         if not 0 <= self.at < len(self.block):
-            self.load(offset, NEAR if 0 <= self.at < len(self.block) + NEAR else FEW)
+            self._load(offset, NEAR if 0 <= self.at < len(self.block) + NEAR else FEW)
 
-    def load(self, offset, size=SIZE):
-        """Reads a block from an offset on."""
+    def load(self, offset):
+        """Goes to an offset, and reads much ahead."""
+        self._load(offset, SIZE)
+
+    def _load(self, offset, size):
         self.file.seek(offset)
         self.block, self.start, self.at = self.file.read(size), offset, 0
