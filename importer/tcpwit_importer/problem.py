@@ -2,9 +2,14 @@
 import argparse
 import errno
 import os
+import signal
 import subprocess
 import sys
 import traceback
+
+
+class Terminated(BaseException):
+    """SIGTERM came."""
 
 
 class Problem(Exception):
@@ -36,6 +41,8 @@ def one_line(data):
 def plain(text):
     """A text with everything escaped that could control a terminal: control characters as `\\x1b`, bytes that aren't
     UTF-8 as `\\xff`."""
+    if text.isprintable():
+        return text
     return "".join(letter if letter.isprintable() else escaped(ord(letter)) for letter in text)
 
 
@@ -90,6 +97,8 @@ def status_of(command, act):
         say(command, str(error), "check whether the programs can be run")
     except KeyboardInterrupt:
         return 130
+    except Terminated:
+        return 128 + signal.SIGTERM
     except Exception as error:
         # Python's own status would be 1, the status of a no.
         say(command, f"{type(error).__name__}: {error} ({place_of(error)})",

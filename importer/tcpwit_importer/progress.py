@@ -17,12 +17,13 @@ REMOVED = "\r\033[K"
 
 class Part:
     """A part of the work, to be used with `with`. `position` returns how much of `size` is done, and is called by
-    another thread."""
+    another thread. What is counted may have a name, such as `connection`."""
     # A command that shows its parts sets this to its name.
     command = None
 
-    def __init__(self, what, size=None, position=None, beside_programs=False):
+    def __init__(self, what, size=None, position=None, beside_programs=False, counted=""):
         self.what, self.size, self.position = plain(what), size, position
+        self.counted = f"{size:,} {counted}{'' if size == 1 else 's'}" if counted else ""
         # Programs that print on the same terminal would disturb a line that is updated.
         self.once = beside_programs
         self.began, self.ended = time.monotonic(), threading.Event()
@@ -43,7 +44,7 @@ class Part:
         if self.ended.wait(PATIENCE):
             return
         if self.once or not sys.stderr.isatty():
-            print(f"{self.command}: {self.what}", file=sys.stderr, flush=True)
+            print(f"{self.command}: {self.what} {self.counted}".rstrip(), file=sys.stderr, flush=True)
             return
         while not self.ended.is_set():
             print(REMOVED + self.line()[:width_of(sys.stderr) - 1], end="", file=sys.stderr, flush=True)
@@ -53,7 +54,9 @@ class Part:
     def line(self):
         """The line of a terminal."""
         state = f"{time.monotonic() - self.began:.0f} s"
-        if self.size:
+        if self.counted:
+            state = f"{self.position():,} of {self.counted}"
+        elif self.size:
             state = f"{min(100, self.position() * 100 // self.size)} %"
         return f"{self.command}: {self.what}: {state}"
 

@@ -202,7 +202,7 @@ class Captures(WithCapture):
 
     def test_a_packet_of_several_interfaces_counts_once(self):
         own, other = (b"\x0a\x09\0\1", 4000), (b"\x0a\x09\0\2", 80)
-        rows = [Packet(number, source, other if source == own else own, b"", outgoing)
+        rows = [Packet(number, source, other if source == own else own, BODY, outgoing)
                 for number, (source, outgoing) in enumerate([(own, True), (own, False), (other, False), (other, True)])]
         self.assertEqual([packet.moment for packet in seen_once(rows, {own})], [0, 2])
         # A loopback marks nothing as sent, and other links don't show the direction.

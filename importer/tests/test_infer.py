@@ -6,7 +6,7 @@ from tcpwit_importer.capture.segments import ACK, FIN, RST, SYN
 from tcpwit_importer.infer.streams import Stream
 
 from . import inferred
-from .wire import Talk
+from .wire import ONE, ZERO, Talk, segment
 
 OPENED = ["B open 0 4000 80", "E ok 2", "O 0"]
 LISTENED = ["B listen 1 80 0", "E ok 1"]
@@ -252,7 +252,8 @@ class Cut(inferred.Inferring):
     def test_many_segments_that_were_cut(self):
         # Each segment leaves a span of its own, in both captures. A search through all of them would take minutes.
         stream, count = Stream(1000), 30_000
-        found = [SimpleNamespace(number=1001 + 10 * at, flags=ACK, size=10, missing=6, payload=b"abcd" + bytes(6))
+        body = segment(ZERO, ONE, 1, 1, ACK, b"abcd" + bytes(6))
+        found = [SimpleNamespace(number=1001 + 10 * at, flags=ACK, size=10, missing=6, segment=body)
                  for at in range(count)]
         for packet in found * 2:
             stream.add(packet)

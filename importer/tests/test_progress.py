@@ -41,6 +41,13 @@ class Parts(unittest.TestCase):
                          ["tcpwit-record: reading host0.log: 0 %", "tcpwit-record: reading host0.log: 12 %"])
         self.assertEqual(lines[10], "tcpwit-record: reading host0.log: 100 %")
 
+    def test_what_is_counted(self):
+        for count, counted in ((1031, "1,031 connections"), (1, "1 connection")):
+            words = ("judging", count, lambda: count * 4 // 10, False, "connection")
+            lines = self.shown(Terminal(), *words, least=1).split("\r\033[K")
+            self.assertEqual(lines[1], f"tcpwit-record: judging: {count * 4 // 10} of {counted}")
+            self.assertEqual(self.shown(io.StringIO(), *words), f"tcpwit-record: judging {counted}\n")
+
     def test_a_line_fits_into_the_terminal(self):
         with mock.patch.object(progress, "width_of", return_value=30):
             self.assertIn("\r\033[Ktcpwit-record: judging aaaaaa\r", self.shown(Terminal(), "judging " + "a" * 99))

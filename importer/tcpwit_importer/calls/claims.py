@@ -101,7 +101,7 @@ class Claims:
         """Records that a call of a host returned this end of a connection. Does nothing for None."""
         if connection:
             unclaimed[connection.server[1]].remove(connection)
-            connection.claimed.add(role)
+            connection.claimed += (role,)
             endpoint.connection = connection
             connection.hosts[endpoint.own_end] = endpoint.host
 

@@ -20,7 +20,7 @@ class Connection:
         self.client, self.server, self.begun = client, server, begun
         self.seen, self.initial, self.sizes = {}, {}, {}
         self.whole = True
-        self.claimed = set()
+        self.claimed = ()
         self.hosts = {}
         self._streams = {}
 
@@ -46,8 +46,8 @@ class Connection:
     def piece_size(self, segment):
         """The most bytes that a segment with these options has on the wire: the smaller MSS option minus the length of
         its options."""
-        sizes = [self.sizes.get(end) or USUAL_SIZE for end in (self.client, self.server)]
-        return max(1, min(sizes) - (header_length(segment) - SHORTEST))
+        size = min(self.sizes.get(self.client) or USUAL_SIZE, self.sizes.get(self.server) or USUAL_SIZE)
+        return max(1, size - (header_length(segment) - SHORTEST))
 
     def completed(self, captures=()):
         """The moment of the client's first segment after its SYN in these captures, or in all; None if no capture has
@@ -180,19 +180,42 @@ def _size_option(segment):
     return int.from_bytes(found[0], "big") if found else None
 
 
-def connections_of(captures, kind=Connection):
+class Table:
+    """The connections that packets form, which are added in the order of their captures."""
+
+    def __init__(self, kind):
+        self.kind, self.found = kind, {}
+        # The name of the capture that is read, and the latest connection of each pair of ends in it.
+        self.name, self.current = "", {}
+
+    def begin(self, name):
+        """The packets of this capture follow."""
+        self.name, self.current = name, {}
+
+    def add(self, packet):
+        """Adds the next packet to its connection, which is returned."""
+        pair = min(packet.source, packet.target), max(packet.source, packet.target)
+        connection = self.current.get(pair)
+        if not continues(connection, packet):
+            key = (packet.source, packet.target, packet.number) if packet.is_syn else (pair, self.name)
+            connection = self.found.setdefault(key, begun_by(packet, self.kind))
+            self.current[pair] = connection
+        connection.add(self.name, packet)
+        return connection
+
+    def connections(self):
+        """All connections, in the order in which they begin."""
+        return sorted(self.found.values(), key=lambda connection: connection.begun)
+
+
+def connections_of(captures):
     """The connections of all captures, in the order in which they begin. `captures` maps names to packets."""
-    found = {}
+    table = Table(Connection)
     for name, packets in captures.items():
-        current = {}
+        table.begin(name)
         for packet in packets:
-            pair = frozenset((packet.source, packet.target))
-            connection = current.get(pair)
-            if not continues(connection, packet):
-                key = (packet.source, packet.target, packet.number) if packet.is_syn else (pair, name)
-                connection = current[pair] = found.setdefault(key, begun_by(packet, kind))
-            connection.add(name, packet)
-    return sorted(found.values(), key=lambda connection: connection.begun)
+            table.add(packet)
+    return table.connections()
 
 
 def continues(connection, packet):

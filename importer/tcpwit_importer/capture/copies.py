@@ -45,7 +45,11 @@ def _compared(packets):
             full = 2 * len(recent) + FEW
         key = (packet.source, packet.identification, packet.outgoing, packet.segment)
         place = (packet.capture, packet.interface, packet.lifetime)
-        before = [each for each in recent.get(key, ()) if abs(packet.moment - each.moment) <= SOON]
+        if key not in recent:
+            recent[key] = [_Transmission(packet.moment, place)]
+            originals[packet.source] += 1
+            continue
+        before = [each for each in recent[key] if abs(packet.moment - each.moment) <= SOON]
         elsewhere = next((each for each in before if place not in each.places), None)
         if elsewhere:
             elsewhere.places.add(place)

@@ -6,6 +6,7 @@ from typing import Any, NamedTuple
 
 from ..problem import Problem
 from ..remedies import BUFFER
+from .blocks import Blocks
 from .layers import LINKS
 
 # The magic number of pcap as the file has it: byte order, nanoseconds of a fraction, bytes of a packet's header.
@@ -92,12 +93,14 @@ class Layout:
 
 
 def frames_of(name, file, layout):
-    """The frames of a file that is at its beginning."""
-    magic = file.read(4)
+    """The frames of a file that is at its beginning. After each frame, others that follow may be taken from its
+    blocks, if it's given as `Blocks`."""
+    blocks = file if isinstance(file, Blocks) else Blocks(file)
+    magic = blocks.read(4)
     if magic in PCAP:
-        return _pcap(name, file, layout, magic)
+        return _pcap(name, blocks, layout, magic)
     if magic == SECTION.to_bytes(4, "big"):
-        return _pcapng(name, file, layout, magic)
+        return _pcapng(name, blocks, layout, magic)
     raise Problem(f"{name}: neither pcap nor pcapng", "give a file that tcpdump -w or Wireshark wrote")
 
 
@@ -107,7 +110,7 @@ def frame_at(name, file, layout, offset):
     file.seek(offset)
     if section.head:
         return _pcap_frame(file, section, file.read(section.head), offset)
-    kind, _, block = _block(file, section, file.read(8))
+    kind, block = _block(file, section, file.read(8))
     frame = _pcapng_frame(name, section, kind, block, offset)
     if frame is None:
         raise Damaged("a block without a packet")
@@ -133,11 +136,10 @@ def _pcap(name, file, layout, magic):
     order, nanoseconds, head = PCAP[magic]
     link = struct.unpack(order + "16xI", _exactly(file, 20))[0] & 0xFFFF
     section = layout.add(0, Section(order, [(_known(link, name), None, None)], nanoseconds, head))
-    offset = 24
+    offset = file.offset
     while start := file.read(head):
-        frame = _pcap_frame(file, section, start, offset)
-        yield frame
-        offset += head + len(frame.data)
+        yield _pcap_frame(file, section, start, offset)
+        offset = file.offset
 
 
 def _pcap_frame(file, section, start, offset):
@@ -155,28 +157,28 @@ def _pcapng(name, file, layout, magic):
     section, offset, head = None, 0, magic + file.read(4)
     while head:
         if head[:4] == SECTION.to_bytes(4, "big"):
-            section, length = _section(file, layout, head, offset)
+            section = _section(file, layout, head, offset)
         else:
-            kind, length, block = _block(file, section, head)
+            kind, block = _block(file, section, head)
             if kind == INTERFACE:
                 layout.add_interface(section, _interface(name, block, section.order))
             elif kind == STATISTICS:
                 _refuse_losses(name, block, section.order)
             elif frame := _pcapng_frame(name, section, kind, block, offset):
                 yield frame
-        offset += length
+        offset = file.offset
         head = file.read(8)
 
 
 def _section(file, layout, head, offset):
-    """The section that begins with this header, whose first 8 bytes were read, and the length of its header."""
+    """The section that begins with this header, whose first 8 bytes were read."""
     mark = _exactly(file, 4)
     if mark not in ORDERS:
         raise Damaged("a section without a byte order")
     section = Section(ORDERS[mark], [])
     _, length = _head(section, head)
     _skip(file, section, length, 12)
-    return layout.add(offset, section), length
+    return layout.add(offset, section)
 
 
 def _head(section, head):
@@ -190,17 +192,17 @@ def _head(section, head):
 
 
 def _block(file, section, head):
-    """The kind, the length and the bytes of the block whose first 8 bytes were read; no bytes if it is skipped."""
+    """The kind and the bytes of the block whose first 8 bytes were read; no bytes if it is skipped."""
     kind, length = _head(section, head)
     if kind not in READ:
         _skip(file, section, length, 8)
-        return kind, length, b""
+        return kind, b""
     if length > LONGEST_BLOCK:
         raise Damaged(f"a block of {length} bytes")
     block = head + _exactly(file, length - 8)
     if block[-4:] != head[4:]:
         raise Damaged("a block with two lengths")
-    return kind, length, block
+    return kind, block
 
 
 def _skip(file, section, length, done):

@@ -10,14 +10,16 @@ import shutil
 import tempfile
 from array import array
 
-from ..files import opened
+from ..files import opened, without_collection
 from ..problem import Problem
 from ..progress import Part
-from .connections import Connection, connections_of
+from .blocks import Blocks
+from .connections import Connection, Table
 from .frames import Layout
-from .packets import packet_at, packets_of
+from .packets import packets_of
 from .segments import FIN, RST, SYN
-from .signs import Signs
+from .signs import CHECKED, Signs
+from .usual import bytes_of, ends_of, packet_of, packets_again, reader_of, segment_at
 
 READABLE = "name a capture that can be read"
 # How many SYNs of each capture are kept, to compare the captures' clocks.
@@ -34,35 +36,39 @@ class Indexed(Connection):
     def __init__(self, client, server, begun):
         super().__init__(client, server, begun)
         self.places, self.syns, self.own = {}, {}, {}
-        self.fragmented, self.others, self.ends, self.senders = False, 0, set(), set()
+        self.fragmented, self.others, self.ends, self.senders = False, 0, (), ()
         self.signs, self.place = Signs(), None
 
     def add(self, capture, packet):
         """Adds the next packet of a capture."""
-        offsets, counts = self.places.setdefault(capture, (array("Q"), array("Q")))
+        if capture not in self.places:
+            self.places[capture] = array("Q"), array("Q")
+        offsets, counts = self.places[capture]
         offsets.append(packet.offset)
         counts.append(packet.count)
-        self.senders.add(packet.source)
-        self.signs.add(packet, packet.source == self.client)
+        is_client = packet.source == self.client
+        source = self.client if is_client else self.server
+        self.signs.add(packet, is_client)
+        self.senders = with_end(self.senders, source)
         self.others += not packet.flags & (SYN | RST)
         if packet.flags & RST:
             self.ends = None
         elif packet.flags & FIN and self.ends is not None:
-            self.ends.add(packet.source)
+            self.ends = with_end(self.ends, source)
         if packet.outgoing is not None:
-            self.own.setdefault(capture, set()).add(packet.source if packet.outgoing else packet.target)
+            self.own.setdefault(capture, set()).add(source if packet.outgoing else self.other(source))
         if packet.flags & SYN:
-            self.initial.setdefault(packet.source, packet.number)
+            self.initial.setdefault(source, packet.number)
             syns = self.syns.setdefault(capture, {})
             if len(syns) < SYNS:
-                syns.setdefault((packet.source, packet.segment[:16]), packet.moment)
+                syns.setdefault((source, packet.segment[:16]), packet.moment)
 
     def join(self, other):
         """Adds what the other capture has of it."""
         self.whole = self.whole and other.whole
         for own, more in ((self.places, other.places), (self.syns, other.syns), (self.own, other.own)):
             own.update(more)
-        self.senders |= other.senders
+        self.add_senders(other)
 
     def continue_with(self, other):
         """Adds packets that follow in the same captures."""
@@ -70,7 +76,12 @@ class Indexed(Connection):
             mine = self.places.setdefault(capture, (array("Q"), array("Q")))
             mine[0].extend(offsets)
             mine[1].extend(counts)
-        self.senders |= other.senders
+        self.add_senders(other)
+
+    def add_senders(self, other):
+        """Adds the senders of what is added."""
+        for source in other.senders:
+            self.senders = with_end(self.senders, source)
 
     @property
     def count(self):
@@ -81,10 +92,15 @@ class Indexed(Connection):
         """The connection with its packets."""
         connection = Connection(self.client, self.server, self.begun)
         for capture, places in self.places.items():
-            with open(files[capture], "rb") as file:
-                for offset, count in zip(*places):
-                    connection.add(capture, packet_at(capture, file, layouts[capture], offset, count))
+            with open(files[capture], "rb", buffering=0) as file:
+                for packet in packets_again(capture, file, layouts[capture], *places):
+                    connection.add(capture, packet)
         return connection
+
+
+def with_end(ends, end):
+    """Some of a connection's ends, with another one. Unlike a set, a tuple needs little memory."""
+    return ends if end in ends else (*ends, end)
 
 
 class Capture:
@@ -94,18 +110,86 @@ class Capture:
     def __init__(self, name, file):
         self.name, self.file, self.layout, self.last = name, file, Layout(), 0
 
-    def packets(self, notes):
-        """Its packets, in the order of the file."""
+    def add_to(self, table, notes):
+        """Adds its packets to connections."""
+        table.begin(self.name)
         with opened(self.file, READABLE) as file:
-            for packet in packets_of(self.name, file, notes, self.layout, lenient=True):
-                self.last = max(self.last, packet.moment)
-                yield packet
+            blocks, index = Blocks(file), Index(self, table)
+            for packet in packets_of(self.name, blocks, notes, self.layout, lenient=True):
+                index.add(packet)
+                index.add_usual(blocks)
 
 
+class Direction:
+    """A direction of a connection: its sender, and the functions that add a packet's offset and its count."""
+    __slots__ = ("connection", "sender", "add_offset", "add_count")
+
+    def __init__(self, connection, capture, is_client):
+        self.connection = connection
+        self.sender = connection.signs.client if is_client else connection.signs.server
+        self.add_offset, self.add_count = (numbers.append for numbers in connection.places[capture])
+
+
+class Index:
+    """Adds the packets of a capture to connections. Most packets are plain: they show nothing new, and only need a
+    place. `known` has the directions that may have plain packets by the bytes of their ends, for each mark."""
+
+    def __init__(self, capture, table):
+        self.capture, self.table = capture, table
+        self.known = {None: {}, False: {}, True: {}}
+
+    def add(self, packet):
+        """Adds a packet. Others like it may be plain, except until a handshake's end, or at the connection's."""
+        connection = self.table.add(packet)
+        self.capture.last = max(self.capture.last, packet.moment)
+        key = bytes_of(packet.source, packet.target)
+        if packet.flags & (SYN | FIN | RST) or connection.signs.is_answered:
+            for directions in self.known.values():
+                directions.pop(key, None)
+                directions.pop(bytes_of(packet.target, packet.source), None)
+        elif key not in self.known[packet.outgoing]:
+            direction = Direction(connection, self.capture.name, packet.source == connection.client)
+            self.known[packet.outgoing][key] = direction
+
+    def add_usual(self, blocks):
+        """Adds the usual packets that follow, up to the first that isn't usual."""
+        layout, known, goes_on = self.capture.layout, self.known, True
+        read = reader_of(layout.sections[-1])
+        while goes_on:
+            block, at = blocks.block, blocks.at
+            while record := read(block, at):
+                following, begin, end, moment, link, _ = record
+                if not (usual := segment_at(block, begin, end, link)):
+                    break
+                ends, _, _, size, flags, _, lifetime, _, sent = usual
+                layout.frames += 1
+                direction = known[sent].get(ends)
+                if direction and not flags & (SYN | FIN | RST) and shows_nothing(direction.sender, lifetime, size):
+                    direction.add_offset(blocks.start + at)
+                    direction.add_count(layout.frames)
+                    direction.connection.others += 1
+                    if moment > self.capture.last:
+                        self.capture.last = moment
+                else:
+                    self.add(packet_of(self.capture.name, block, record, usual, ends_of(ends), blocks.start + at,
+                                       layout.frames))
+                at = following
+            blocks.at = at
+            goes_on = record is None and blocks.fill()
+
+
+def shows_nothing(sender, lifetime, size):
+    """Whether a packet shows nothing new of its sender."""
+    return sender.least <= lifetime <= sender.greatest and (size or sender.checked >= CHECKED)
+
+
+@without_collection
 def indexed(captures, notes):
     """The connections of all captures, in the order in which they begin."""
-    connections = without_strays(connections_of({capture.name: capture.packets(notes)
-                                                 for capture in captures}, Indexed))
+    table = Table(Indexed)
+    for capture in captures:
+        capture.add_to(table, notes)
+    connections = without_strays(table.connections())
     return with_both_parts(connections) if len(captures) == 2 else connections
 
 
@@ -148,21 +232,16 @@ def with_both_parts(connections):
 def plain(name):
     """The name of a file with the same bytes that can be read in any order: of a pipe or a compressed file, it's a
     copy."""
-    with opened(name, READABLE) as file:
-        if os.path.isfile(name) and not isinstance(file, gzip.GzipFile):
-            copy = None
-        else:
-            copy = tempfile.NamedTemporaryFile(prefix="tcpwit-judge-")
-            try:
-                with Part(f"copying {name}"):
-                    shutil.copyfileobj(file, copy)
-                copy.flush()
-            except OSError as error:
-                copy.close()
-                raise Problem(f"{tempfile.gettempdir()}: {error.strerror}",
-                              "free some space there, or set TMPDIR") from error
-    if copy is None:
+    with contextlib.ExitStack() as stack:
+        with opened(name, READABLE) as file:
+            if not os.path.isfile(name) or isinstance(file, gzip.GzipFile):
+                copy = stack.enter_context(tempfile.NamedTemporaryFile(prefix="tcpwit-judge-"))
+                try:
+                    with Part(f"copying {name}"):
+                        shutil.copyfileobj(file, copy)
+                    copy.flush()
+                except OSError as error:
+                    raise Problem(f"{tempfile.gettempdir()}: {error.strerror}",
+                                  "free some space there, or set TMPDIR") from error
+                name = copy.name
         yield name
-    else:
-        with copy:
-            yield copy.name

@@ -20,10 +20,10 @@ class Sent(NamedTuple):
 
 def cut(segment, size):
     """The pieces of at most `size` bytes: only the last has FIN and PSH, only the first CWR."""
-    head, data = header_length(segment), payload(segment)
-    if len(data) <= size:
+    head = header_length(segment)
+    if len(segment) - head <= size:
         return [segment]
-    pieces = []
+    pieces, data = [], segment[head:]
     for start in range(0, len(data), size):
         kept = flags(segment) & ~MOVED & 0xFF
         kept |= flags(segment) & CWR if start == 0 else 0
@@ -113,7 +113,7 @@ class Flow:
         pieces = cut(packet.segment, self.connection.piece_size(packet.segment))
         if len(pieces) > 1:
             self.notes.change("segments that an offload enlarged, cut into those on the wire", packet.place)
-        for piece in pieces:
+        for piece in pieces if self.both else ():
             self.sent[packet.source].add(packet.moment, piece)
         return pieces
 

@@ -1,20 +1,29 @@
 """Reads the TCP packets of captures: all of a file, one after the other, or one by its offset."""
+import functools
 import gzip
+import struct
 import zlib
 from ipaddress import ip_address
 
 from ..files import opened
 from ..problem import Problem
 from ..remedies import NOTHING_SENT, OFFLOADS_OFF, WHOLE_PACKETS
+from .blocks import Blocks
 from .frames import Damaged, Ended, Layout, frame_at, frames_of
 from .layers import CUT, Fragment, LeftOut, segment_in
-from .segments import ACK, FLAGS_END, SHORTEST, SYN, acknowledgment, flags, header_length, number, payload, ports, size
+from .segments import ACK, FLAGS_END, SHORTEST, SYN, header_length, payload, ports
+
+# Of how many ends the printed form is kept.
+KEPT = 1 << 12
+# Sequence number, acknowledgment number, data offset, flags and checksum of a segment.
+_FIELDS = struct.Struct("!4xIIBB2xH").unpack_from
 
 
 class Packet:
     """A captured segment: its moment in nanoseconds, its source and destination, and its bytes from the TCP header on.
-    There, the checksum is 0, since offloads leave it unfinished; `checksum` has it. `captured` is the moment that the
-    capture has, also if another one is estimated.
+    There, the checksum is 0, since offloads leave it unfinished; `checksum` has it. `number`, `acknowledgment` and
+    `flags` (from CWR down to FIN) are those of its header, and `size` is how many bytes follow the header. `captured`
+    is the moment that the capture has, also if another one is estimated.
 
     `outgoing` states whether the capture marked it as sent by its host; None if the file doesn't show it. `missing` is
     how many bytes at the segment's end were not captured: they are zeros in `segment`. `offset` is where its record
@@ -22,17 +31,26 @@ class Packet:
     the TTL or hop limit; `interface` is the number of the interface, if the file shows it.
     """
     __slots__ = ("moment", "captured", "source", "target", "segment", "outgoing", "capture", "count", "missing",
-                 "offset", "identification", "lifetime", "interface", "checksum")
+                 "offset", "identification", "lifetime", "interface", "checksum", "number", "acknowledgment", "flags",
+                 "size")
 
     def __init__(self, moment, source, target, segment, outgoing, capture="", count=0, missing=0, offset=None,
                  identification=0, interface=None, lifetime=None):
         self.moment, self.captured, self.source, self.target = moment, moment, source, target
-        segment += bytes(missing)
-        self.segment, self.outgoing = segment[:16] + b"\0\0" + segment[18:], outgoing
-        self.checksum = int.from_bytes(segment[16:18], "big")
+        if missing:
+            segment = bytes(segment) + bytes(missing)
+        self.number, self.acknowledgment, head, self.flags, self.checksum = _FIELDS(segment)
+        self.size = len(segment) - (head >> 4) * 4
+        self.segment, self.outgoing = b"".join((segment[:16], b"\0\0", segment[18:])), outgoing
         self.capture, self.count = capture, count
         self.missing, self.offset = missing, offset
         self.identification, self.lifetime, self.interface = identification, lifetime, interface
+
+    def replace(self, segment):
+        """Gives it another segment, whose checksum is 0."""
+        self.number, self.acknowledgment, head, self.flags, _ = _FIELDS(segment)
+        self.size = len(segment) - (head >> 4) * 4
+        self.segment = segment
 
     def share(self, known):
         """Makes equal addresses and segments one object."""
@@ -46,29 +64,9 @@ class Packet:
         return f"{self.capture}, packet {self.count}"
 
     @property
-    def flags(self):
-        """The flags from CWR down to FIN."""
-        return flags(self.segment)
-
-    @property
-    def number(self):
-        """The sequence number."""
-        return number(self.segment)
-
-    @property
-    def acknowledgment(self):
-        """The acknowledgment number."""
-        return acknowledgment(self.segment)
-
-    @property
     def payload(self):
         """The bytes after the TCP header."""
         return payload(self.segment)
-
-    @property
-    def size(self):
-        """How many bytes follow the TCP header."""
-        return size(self.segment)
 
     @property
     def lacks_header(self):
@@ -78,7 +76,7 @@ class Packet:
     @property
     def is_syn(self):
         """Whether SYN is set, and ACK isn't."""
-        return flags(self.segment) & (SYN | ACK) == SYN
+        return self.flags & (SYN | ACK) == SYN
 
 
 def read_capture(name, notes, known, may_be_empty=False):
@@ -104,7 +102,8 @@ def packets_of(name, file, notes, layout=None, whole=False, lenient=False):
     header is complete is among the packets. If `lenient`, so is one whose header a snap length cut after the flags, and
     the file may end within a packet, which is noted."""
     layout = Layout() if layout is None else layout
-    again = not isinstance(file, gzip.GzipFile) and file.seekable()
+    source = file.file if isinstance(file, Blocks) else file
+    again = not isinstance(source, gzip.GzipFile) and source.seekable()
     try:
         for frame in frames_of(name, file, layout):
             layout.frames += 1
@@ -171,6 +170,7 @@ def _packet(frame, name, count, whole, lenient):
                   None, identification, interface, lifetime)
 
 
+@functools.lru_cache(KEPT)
 def shown(end):
     """An address and a port, as they are printed."""
     address = ip_address(end[0])

@@ -12,6 +12,8 @@ SHORTEST, FLAGS_END = 20, 14
 # Kinds of options: the end of all, padding, the maximum segment size, the window shift, multipath TCP, and Fast Open.
 END, PADDING, SIZE, SHIFT = range(4)
 MULTIPATH, FAST_OPEN = 30, 34
+# How the usual options after a handshake begin: padding and timestamps, which have 12 bytes together.
+STAMPS = bytes([PADDING, PADDING, 8, 10])
 
 _PORTS = struct.Struct("!HH").unpack_from
 
@@ -78,6 +80,8 @@ def listed(rest):
 
 def are_damaged(rest):
     """Whether one of these options has a wrong length: its length is missing, below 2, or beyond the options' end."""
+    if rest[:4] == STAMPS and len(rest) == 12:
+        return False
     while rest and rest[0] != END:
         if not (length := _length(rest)):
             return True

@@ -38,6 +38,11 @@ class Signs:
         self.client, self.server = Sender(), Sender()
         self.opened = self.answered = self.completed = None
 
+    @property
+    def is_answered(self):
+        """Whether the next ACK of the client completes the handshake."""
+        return self.answered is not None and self.completed is None
+
     def add(self, packet, is_client):
         """The next packet, which the client or the server sent."""
         (self.client if is_client else self.server).add(packet)

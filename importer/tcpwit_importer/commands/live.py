@@ -4,9 +4,11 @@ A connection has ended when both FINs were acknowledged, or at a reset. It's jud
 since late segments belong to it, too. Its packets are kept until then. If they need too much memory, a connection is
 judged as far as it was captured.
 """
+import io
 import multiprocessing
 import queue
 import signal
+import sys
 import threading
 import time
 from collections import OrderedDict
@@ -149,6 +151,13 @@ class Stream:
             self.end(next(iter(self.current)))
 
 
+def standard_input():
+    """Standard input apart from Python's own object: when Python ends, it closes that, for which it would await a
+    thread that reads it."""
+    own = sys.stdin.buffer
+    return io.BufferedReader(own.raw) if isinstance(own, io.BufferedReader) else own
+
+
 class Reader(threading.Thread):
     """Reads the packets of a stream, so that its program needn't wait while connections are judged."""
 
@@ -182,7 +191,8 @@ class Pool:
             self.places.decide([connection])
         self.number += 1
         connection.fragmented = self.judges.is_fragmented(connection)
-        self.waiting.add(self.pool.submit(self.judges.result, self.number, connection, moment))
+        self.waiting.add(self.pool.submit(workers.ending, self.judges.result, self.number, connection,
+                                         moment))
         while len(self.waiting) > 2 * self.jobs:
             self.collect(None)
 

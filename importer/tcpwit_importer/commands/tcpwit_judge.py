@@ -17,11 +17,11 @@ from ..remedies import NOTHING_SENT, WIDER
 from ..trace import header as headers
 from . import lab
 from .annotated import annotate
-from .live import Pool, Reader, Stream, watch
+from .live import Pool, Reader, Stream, standard_input, watch
 from .options import add_first_level, number_within, refuse_laxer, slack
 from .output import Output
 from .verdicts import Judge
-from .workers import results
+from .workers import Results, terminating
 
 COMMAND, STANDARD_INPUT = "tcpwit-judge", "-"
 DESCRIPTION = """Judges the TCP connections of captures, without a log of the programs' calls.
@@ -163,7 +163,7 @@ def judge_live(options, program, notes):
     capture, output = Capture("standard input", None), Output(options)
     judges = Judge(program, {capture.name: capture}, OneCapture(capture, options.host), options, header_values(options))
     idle = options.idle or 2 * (options.msl or headers.VALUES["msl"]) // 10**6
-    reader = Reader(capture, sys.stdin.buffer, notes)
+    reader = Reader(capture, standard_input(), notes)
     places = places_of(options, [capture])
     with contextlib.closing(Pool(judges, options.jobs, output, notes, places)) as pool:
         watch(reader, Stream(capture, pool.judge, idle * 10**9, options.memory * 10**6), pool)
@@ -198,8 +198,9 @@ def judge_files(options, program, notes):
             notes.say(f"{said(judges.clock)} (host 0 is that of {captures[0].name})")
         output = Output(options, [str(connection) for connection in connections])
         # On a terminal, a line that is updated would disturb the verdicts.
-        with contextlib.closing(results(judges, connections, options.jobs)) as found, \
-                Part("judging the connections", len(connections), lambda: output.count, sys.stdout.isatty()):
+        results = Results(judges, connections, options.jobs)
+        with contextlib.closing(results.in_order()) as found, \
+                Part("judging", len(connections), lambda: results.done, sys.stdout.isatty(), "connection"):
             for result in found:
                 output.add(result)
                 notes.add(result.notes)
@@ -239,4 +240,5 @@ def main(words=None):
     """Runs the command and returns its exit status."""
     options = parser().parse_args(words)
     Part.command = None if options.quiet else COMMAND
-    return status_of(COMMAND, lambda: judge(options))
+    with terminating():
+        return status_of(COMMAND, lambda: judge(options))

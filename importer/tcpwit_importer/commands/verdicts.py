@@ -3,7 +3,6 @@ import contextlib
 import json
 import os
 import re
-import subprocess
 import tempfile
 from dataclasses import dataclass, field
 from itertools import filterfalse
@@ -11,7 +10,7 @@ from typing import Any
 
 from ..capture.connections import refuse_gaps
 from ..capture.packets import shown
-from ..files import remove, write_file
+from ..files import remove, without_collection, write_file
 from ..infer.begun import beginnings
 from ..infer.conversion import Trace
 from ..infer.hosts import Undecided
@@ -24,7 +23,7 @@ from ..problem import Notes, Problem, counted, decoded, place_of
 from ..remedies import LESS_AT_ONCE
 from ..trace import header as headers
 from ..trace.header import FULL, LEVELS, VALUES
-from . import lab
+from . import lab, spawned
 from .ladder import ladder
 from .refusals import refusals_of
 from .retransmissions import Witness
@@ -157,7 +156,10 @@ class Judge:
         self.layouts = {name: capture.layout for name, capture in captures.items()}
         self.last = {name: capture.last for name, capture in captures.items()}
         self.clock = roles.clock()
+        # For each program, the variables would be encoded again.
+        self.environment = dict(os.environb)
 
+    @without_collection
     def result(self, number, indexed, moment=None):
         """The result of a connection, which is the one with this number. `moment` is when its recording ended, if its
         capture goes on."""
@@ -286,23 +288,12 @@ class Judge:
                 case = os.path.join(stack.enter_context(tempfile.TemporaryDirectory(prefix="tcpwit-judge-")), "case")
             self.read(found, trace, case, *self.answer(trace, [self.program, *self.words(found), "--case", case]))
 
-    @staticmethod
-    def answer(trace, words):
+    def answer(self, trace, words):
         """What a program that reads a trace prints, on both outputs, and its status."""
         try:
-            process = subprocess.Popen(words, stdin=subprocess.PIPE, stdout=subprocess.PIPE, stderr=subprocess.PIPE)
+            return spawned.run(words, trace.lines(), self.environment)
         except OSError as error:
             raise Problem(f"{words[0]}: {error.strerror}", lab.NAME_IT) from error
-        with process:
-            try:
-                process.stdin.writelines(map(str.encode, trace.lines()))
-            except BrokenPipeError:
-                # It has ended: its output says why.
-                pass
-            except BaseException:
-                process.kill()
-                raise
-            return *process.communicate(), process.returncode
 
     def report(self, name, trace, found):
         """Judges a trace that is kept in the file with this name, with its case, its picture and the explanation."""

@@ -9,12 +9,14 @@ from itertools import islice
 
 from ..capture.segments import ACK, FIN, RST, SYN
 from ..trace.endpoints import LONGEST, Data
-from .script import AFTER, BEFORE
+from .script import AFTER, BEFORE, Sending
 
 # The most bytes before a segment that count as sent although no capture has them.
 GAP = 1 << 20
 # How long before a segment the call begins that permits it, in nanoseconds.
 WIDTH = 10**7
+# The thread of the calls that send or end something.
+SENDS = "sends"
 # A host may drop a SYN for which its queue has no room. With this backlog, it may drop any SYN.
 BACKLOG = 0
 
@@ -40,7 +42,7 @@ class Calls:
     def __init__(self, connection, script, streams, end, packets):
         self.connection, self.script, self.end, self.host = connection, script, end, connection.hosts[end]
         self.own, self.peer = streams.get(end), streams.get(connection.other(end))
-        self.packets = packets
+        self.packets, self.sends = packets, (self.host, SENDS)
         sends = [packet for packet in packets if packet.source == end]
         # How many segments are still to come that aren't resets.
         self.left = sum(not packet.flags & RST for packet in sends)
@@ -84,7 +86,7 @@ class Calls:
     def call(self, begin, end, verb, words=(), answer=("ok",)):
         """A call on the connection's socket that sends or ends something. The next one doesn't begin before the packet
         at hand."""
-        self.script.call(begin, end, "sends", verb, self.socket, words, answer)
+        self.script.call(begin, end, SENDS, verb, self.socket, words, answer)
         self.free = self.now
 
     def endpoint(self, role, packet):
@@ -154,10 +156,10 @@ class Calls:
         to send: what comes then has no call."""
         if self.shut or not (packet.size or packet.flags & FIN):
             return
-        end, before = offset + packet.size, self.at(packet, BEFORE)
+        end = offset + packet.size
         if end > self.sent and (offset - self.sent <= GAP or self.own.has(self.sent, offset)):
             self.send_up_to(end, packet)
-        if packet.flags & FIN and self.usable(before, packet):
+        if packet.flags & FIN and self.usable(before := self.at(packet, BEFORE), packet):
             self.shut = True
             self.call(self.early(packet, max(self.free, self.last_arrival())), before, "shut")
 
@@ -167,10 +169,9 @@ class Calls:
         if self.usable(begin, packet):
             for start in range(self.sent, end, LONGEST):
                 length = min(LONGEST, end - start)
-                data = Data(b"", self.socket, start, length, True)
-                self.call(begin, self.at(packet, BEFORE) if start + length == end else begin, "send", (data,),
-                          ("ok", length))
-            self.sent = end
+                self.script.add(begin, self.at(packet, BEFORE) if start + length == end else begin,
+                                Sending(self.sends, self.socket, start, length))
+            self.sent, self.free = end, self.now
 
     def last_arrival(self):
         """The place of the last packet that arrived, -1 if none did. What the program ended before it would be another
@@ -182,15 +183,16 @@ class Calls:
 
     def receive(self, packet, acknowledged):
         """The program received what its host acknowledges."""
-        limits = [acknowledged, self.arrived.reached] + ([] if self.peer.conflict is None else [self.peer.conflict])
-        stop, after = min(limits), self.at(packet, AFTER)
-        if stop > self.received and self.usable(after, packet):
+        stop = min(acknowledged, self.arrived.reached)
+        if self.peer.conflict is not None:
+            stop = min(stop, self.peer.conflict)
+        if stop > self.received and self.usable(after := self.at(packet, AFTER), packet):
             for start in range(self.received, stop, LONGEST):
                 data = Data(b"", self.socket, start, min(LONGEST, stop - start), False)
                 self.script.call(after, after, "receives", "recv", self.socket, (LONGEST,), ("data", data))
             self.received = stop
         has_all = self.received == self.arrived.last and acknowledged == self.received + 1
-        if not self.at_end and has_all and self.usable(after, packet):
+        if has_all and not self.at_end and self.usable(after := self.at(packet, AFTER), packet):
             self.at_end = True
             self.script.call(after, after, "receives", "recv", self.socket, (LONGEST,), ("eof",))
 

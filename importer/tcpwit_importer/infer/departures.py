@@ -155,8 +155,8 @@ class Departures:
             data[offset - at + 1:offset - at + 1 + len(piece)] = piece
         packet, head = copy(model), header_length(model.segment)
         number = (self.connection.initial[self.end] + at) % WRAP
-        packet.segment = (model.segment[:4] + number.to_bytes(4, "big") + model.segment[8:13]
-                          + bytes([ACK | (FIN if has_fin else 0)]) + model.segment[14:head] + bytes(data))
+        packet.replace(model.segment[:4] + number.to_bytes(4, "big") + model.segment[8:13]
+                       + bytes([ACK | (FIN if has_fin else 0)]) + model.segment[14:head] + bytes(data))
         packet.missing = packet.identification = 0
         return packet
 

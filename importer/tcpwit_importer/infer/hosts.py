@@ -126,7 +126,7 @@ class TwoCaptures:
         client, server = self.host(connection.client), self.host(connection.server)
         if client is not None and server is not None and client == server:
             raise Undecided("both its ends are at the same host")
-        if not others and (connection.senders != {connection.client} or client == 1 - place or server == place):
+        if not others and (connection.senders != (connection.client,) or client == 1 - place or server == place):
             return self.half(connection, place, client, server)
         if client is None:
             # If nothing shows where the client is, the first capture is its own, or the only one that has its SYN.

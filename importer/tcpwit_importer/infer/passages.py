@@ -3,7 +3,7 @@ has position 0, its first byte position 1."""
 from copy import copy
 from typing import Any, NamedTuple
 
-from ..capture.segments import ACK, FIN, RST, SHIFT, SYN, WRAP, options, payload, values, window
+from ..capture.segments import ACK, FIN, RST, SHIFT, SYN, WRAP, options, values, window
 
 
 class Passage(NamedTuple):
@@ -103,5 +103,6 @@ def without_garbage(found):
 def shortened(passage):
     """A passage without its bytes."""
     packet = copy(passage.packet)
-    packet.segment, packet.missing = packet.segment[:len(packet.segment) - len(payload(packet.segment))], 0
+    packet.replace(packet.segment[:len(packet.segment) - packet.size])
+    packet.missing = 0
     return passage._replace(packet=packet, stop=passage.start)

@@ -3,13 +3,30 @@
 Each line of a call has a place: before or after the line of a segment, at its moment; or a moment of its own.
 """
 from array import array
-from itertools import count
+from typing import Any, NamedTuple
 
 from ..capture.offloads import Flow
-from ..trace.endpoints import Action, Endpoint
-from ..trace.lines import LAST_CALL, Line, Writer
+from ..trace.endpoints import Endpoint
+from ..trace.lines import LAST_CALL, THREADS, Writer
 
 BEFORE, AFTER = 0, 1
+
+
+class Call(NamedTuple):
+    """An inferred call. Its fields are those of an `Action` without moments."""
+    thread: Any
+    verb: str
+    endpoint: Any
+    words: tuple
+    answer: tuple
+
+
+class Sending(NamedTuple):
+    """A call that sends bytes of its end, from an offset on. A connection has many."""
+    thread: Any
+    endpoint: Any
+    offset: int
+    length: int
 
 
 class Script:
@@ -19,7 +36,7 @@ class Script:
 
     def __init__(self):
         self.ignored, self.expiries = set(), {}
-        self.endpoints, self.lines, self.moments, self.orders = [], {}, [], count()
+        self.endpoints, self.lines, self.moments = [], {}, []
 
     def moment(self, host, moment):
         """A place that is a moment of a host's clock."""
@@ -36,10 +53,19 @@ class Script:
 
     def call(self, begin, end, thread, verb, endpoint, words=(), answer=("ok",)):
         """A call that begins at a place and ends there or at a later one."""
-        order = next(self.orders)
-        action = Action(0, 0, (endpoint.host, thread), verb, endpoint, words, answer, order, (order, 0))
-        self.lines.setdefault(begin, []).append((action, True))
-        self.lines.setdefault(end, []).append((action, False))
+        self.add(begin, end, Call((endpoint.host, thread), verb, endpoint, words, answer))
+
+    def add(self, begin, end, call):
+        """Adds a call at the places where it begins and ends."""
+        lines = self.lines
+        if begin in lines:
+            lines[begin].append((call, True))
+        else:
+            lines[begin] = [(call, True)]
+        if end in lines:
+            lines[end].append((call, False))
+        else:
+            lines[end] = [(call, False)]
 
 
 class InferredCase:
@@ -50,64 +76,88 @@ class InferredCase:
 
 
 class InferredWriter(Writer):
-    """Writes the trace of a connection whose calls were inferred. `streams` has the bytes of each end."""
+    """Writes the trace of a connection whose calls were inferred, and whose packets are in order. `streams` has the
+    bytes of each end."""
 
     def __init__(self, connection, script, streams, captures, clock, end, notes):
         super().__init__(InferredCase(connection, script.endpoints), captures, clock, end, notes)
-        self.script, self.streams = script, streams
+        self.connection, self.script, self.streams = connection, script, streams
         # Of each line: its packet, None for a call; its letter; its time. `start` is the moment of time 0.
         self.packets, self.letters, self.times, self.start = [], bytearray(), array("q"), None
 
     def lines(self):
-        """All lines in order, with numbers and threads."""
+        """All lines in order, with numbers and threads: those of segments, between those of calls."""
         for endpoint in self.case.endpoints:
             self.numbers[id(endpoint)] = len(self.numbers) + 1
-        last = 0
-        for line, packet in self.in_order():
-            self.start, last = line.moment - 10**9 if self.start is None else self.start, line.moment
-            time = (line.moment - self.start) // 1000
-            self.note(packet, line.text, time)
-            yield f"{time} {self.thread(line.thread)} {line.text}\n"
-        for text in LAST_CALL if self.start is not None else ():
-            yield f"{(max(last, self.end) - self.start) // 1000} {self.thread(LAST_CALL)} {text}\n"
-
-    def note(self, packet, text, time):
-        """Notes what the next line shows."""
-        self.packets.append(packet)
-        self.letters.append(ord(text[0]))
-        self.times.append(time)
-
-    def in_order(self):
-        """The lines of segments, each with its packet and between those of calls."""
-        flows = {id(connection): Flow(connection, self.notes, self.both) for connection in self.case.connections}
-        moments = sorted(((self.moment(*place), place) for place in self.script.moments), reverse=True)
-        for line, connection, packet in self.ordered():
-            letter, host, moment = line
-            if letter == "I" and id(packet) in self.script.ignored:
+        flow, ignored = Flow(self.connection, self.notes, self.both), self.script.ignored
+        moments, moment = sorted(((self.moment(*place), place) for place in self.script.moments), reverse=True), None
+        for (letter, host, moment), _, packet in self.ordered():
+            if letter == "I" and id(packet) in ignored:
                 continue
             while moments and moments[-1][0] <= moment:
                 earlier, place = moments.pop()
                 yield from self.calls_at(place, earlier)
             yield from self.calls_at((letter, host, id(packet), BEFORE), moment)
-            yield from ((piece, packet) for piece in self.pieces(flows[id(connection)], line, packet))
+            time = self.time(moment)
+            head = f"{time} {THREADS[letter, host]} {letter} {host}"
+            for digits in self.digits(flow, letter, packet):
+                self.note(packet, letter, time)
+                yield f"{head} {digits}\n"
             yield from self.calls_at((letter, host, id(packet), AFTER), moment)
+        for text in LAST_CALL if self.start is not None else ():
+            yield f"{self.time(max(moment, self.end))} {self.thread(LAST_CALL)} {text}\n"
+
+    def captured(self, host, name):
+        """The segments of one capture."""
+        if host is None:
+            yield from super().captured(host, name)
+            return
+        latest, hosts = 0, self.connection.hosts
+        for packet in self.connection.seen.get(name, ()):
+            moment = self.clock.at(packet.moment) if host == 1 else packet.moment
+            latest = moment if moment > latest else latest
+            yield ("O" if hosts[packet.source] == host else "I", host, latest), self.connection, packet
+
+    def time(self, moment):
+        """A moment as a time of the trace, whose first line has a second."""
+        if self.start is None:
+            self.start = moment - 10**9
+        return (moment - self.start) // 1000
+
+    def note(self, packet, letter, time):
+        """Notes what the next line shows."""
+        self.packets.append(packet)
+        self.letters.append(ord(letter))
+        self.times.append(time)
 
     def calls_at(self, place, moment):
-        """The lines of the calls at a place."""
-        for action, begins in self.script.lines.get(place, ()):
-            yield Line(moment, action.thread, self.begin_text(action) if begins else self.end_text(action)), None
-        if place in self.script.expiries:
-            yield Line(moment, "expiries", self.script.expiries[place]), None
+        """The lines of the calls at a place, which are then forgotten."""
+        script, lines = self.script, []
+        for call, begins in script.lines.pop(place, ()):
+            time, thread = self.time(moment), self.threads.get(call.thread) or self.thread(call.thread)
+            self.note(None, "B" if begins else "E", time)
+            lines.append(f"{time} {thread} {self.begin_text(call) if begins else self.end_text(call)}\n")
+        if script.expiries and place in script.expiries:
+            time = self.time(moment)
+            self.note(None, "T", time)
+            lines.append(f"{time} {self.thread('expiries')} {script.expiries[place]}\n")
+        return lines
 
     def begin_text(self, action):
         """The words of a call's beginning. In a simultaneous open, the second end opens, too."""
         endpoint = action.endpoint
+        if isinstance(action, Sending):
+            digits = self.streams[endpoint.local].hex_of(action.offset, action.length)
+            return f"B send {self.numbers[id(endpoint)]} {digits}"
         if action.verb == "open":
             own = endpoint.local
             return f"B open {endpoint.host} {own[1]} {endpoint.connection.other(own)[1]}"
         return super().begin_text(action)
 
-    def bytes_of(self, data, connection):
-        """The bytes of a call. In a simultaneous open, the second end opens, too."""
-        own = data.endpoint.local
-        return self.streams[own if data.sends else connection.other(own)].bytes_of(data.offset, data.length)
+    def end_text(self, action):
+        """The words of a call's end."""
+        return f"E ok {action.length}" if isinstance(action, Sending) else super().end_text(action)
+
+    def hex_of(self, data, connection):
+        """The bytes that a call receives. In a simultaneous open, the second end opens, too."""
+        return self.streams[connection.other(data.endpoint.local)].hex_of(data.offset, data.length)

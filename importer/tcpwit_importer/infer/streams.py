@@ -1,29 +1,28 @@
 """The bytes that an end of a connection sent, as captures have them, and segments of which a capture has only the
 beginning."""
-from bisect import bisect_left
+from bisect import bisect_left, bisect_right
 
-from ..capture.segments import FIN, RST, SYN, WRAP
+from ..capture.segments import FIN, RST, SYN, WRAP, header_length
+from .spans import Span
+
+HALF = WRAP // 2
 
 
 class Stream:
     """The bytes of one end. If several segments have a byte, the first one counts.
 
-    `spans` has the parts that captures have: where each begins, and its bytes. `last` is the offset of the FIN,
-    `conflict` that of the first byte that two segments have differently; None if there is none.
+    `spans` has the parts that captures have, and `starts` where they begin. `end` is the offset after the last byte.
+    `last` is the offset of the FIN, `conflict` that of the first byte that two segments have differently; None if there
+    is none.
     """
 
     def __init__(self, first):
-        self.first, self.spans = first, []
+        self.first, self.spans, self.starts, self.end = first, [], [], 0
         self.last = self.conflict = None
-
-    @property
-    def end(self):
-        """The offset after the last byte."""
-        return self._stop(-1) if self.spans else 0
 
     def offset(self, packet):
         """The offset of a segment's first byte; negative if it begins before the stream, as a keep-alive may."""
-        return self._near(packet.number + bool(packet.flags & SYN))
+        return self._near(packet.number + 1 if packet.flags & SYN else packet.number)
 
     def acknowledged(self, packet):
         """The offset up to which a segment of the other end acknowledges bytes and the FIN."""
@@ -32,7 +31,7 @@ class Stream:
     def _near(self, number):
         """The offset with this sequence number that is nearest to the end."""
         distance = (number - self.first - 1 - self.end) % WRAP
-        return self.end + distance - (WRAP if distance >= WRAP // 2 else 0)
+        return self.end + distance - (WRAP if distance >= HALF else 0)
 
     def add(self, packet):
         """Adds the bytes of a segment that this end sent."""
@@ -41,62 +40,67 @@ class Stream:
             return
         if packet.flags & FIN and self.last is None:
             self.last = offset + size
-        if payload := packet.payload[:max(0, size - packet.missing)]:
-            self._put(offset, payload)
+        if size > packet.missing:
+            self._put(offset, offset + size - packet.missing, packet.segment, header_length(packet.segment))
 
-    def _put(self, offset, payload):
-        """Writes the bytes that aren't known yet, and compares the others."""
-        end, place = offset + len(payload), self._place(offset)
-        if place == len(self.spans) or self.spans[place][0] > offset:
-            self.spans.insert(place, (offset, bytearray()))
-        start, data = self.spans[place]
-        self._compare(offset, data[offset - start:end - start], payload)
-        data += payload[start + len(data) - offset:]
-        while place + 1 < len(self.spans) and self.spans[place + 1][0] <= end:
-            self._join(place)
+    def _put(self, offset, end, segment, at):
+        """Adds the bytes of a segment from a place on that aren't known yet, and compares the others."""
+        if self.spans and offset == self.end:
+            self.spans[-1].extend(end, segment, at)
+            self.end = end
+            return
+        place = self._place(offset)
+        if place == len(self.spans) or self.starts[place] > offset:
+            self.spans.insert(place, Span(offset))
+            self.starts.insert(place, offset)
+        span = self.spans[place]
+        known = min(end, span.stop)
+        self._compare(offset, span.bytes(offset, known), segment[at:at + known - offset])
+        if span.stop < end:
+            span.extend(end, segment, at + span.stop - offset)
+        while place + 1 < len(self.spans) and self.starts[place + 1] <= end:
+            self._join(span, self.spans.pop(place + 1))
+            self.starts.pop(place + 1)
+        self.end = self.spans[-1].stop
 
     def _place(self, offset):
         """The place of the first span that reaches an offset or is after it. Packets cut short leave many spans, so
         each search must be fast."""
-        place = bisect_left(self.spans, (offset + 1,))
-        return place - 1 if place and self._stop(place - 1) >= offset else place
+        place = bisect_right(self.starts, offset)
+        return place - 1 if place and self.spans[place - 1].stop >= offset else place
 
-    def _stop(self, place):
-        """The offset after the span at a place."""
-        start, data = self.spans[place]
-        return start + len(data)
-
-    def _join(self, place):
+    def _join(self, span, after):
         """Joins a span and the next one, which it reaches. The bytes of the next one were there first."""
-        (start, data), (after, more) = self.spans[place], self.spans.pop(place + 1)
-        common = data[after - start:after - start + len(more)]
-        self._compare(after, common, more)
-        data[after - start:after - start + len(common)] = more[:len(common)]
-        data += more[len(common):]
+        stop = min(span.stop, after.stop)
+        self._compare(after.start, span.bytes(after.start, stop), after.bytes(after.start, stop))
+        span.join(after)
 
     def _compare(self, offset, one, two):
         """Notes the first byte in which two parts at an offset differ."""
-        if one == two[:len(one)]:
+        if one == two:
             return
-        found = next((offset + place for place, (left, right) in enumerate(zip(one, two)) if left != right), None)
-        if found is not None:
-            self.conflict = found if self.conflict is None else min(found, self.conflict)
+        found = next(offset + place for place, (left, right) in enumerate(zip(one, two)) if left != right)
+        self.conflict = found if self.conflict is None else min(found, self.conflict)
 
     def has(self, start, stop):
         """Whether some capture has all bytes of a part."""
         place = self._place(start)
-        return start >= stop or (place < len(self.spans) and self.spans[place][0] <= start
-                                 and stop <= self._stop(place))
+        return start >= stop or (place < len(self.spans) and self.starts[place] <= start
+                                 and stop <= self.spans[place].stop)
+
+    def hex_of(self, offset, length):
+        """The digits of bytes of the stream."""
+        if len(self.spans) == 1 and self.starts[0] <= offset and offset + length <= self.end:
+            return self.spans[0].bytes(offset, offset + length).hex()
+        return self.bytes_of(offset, length).hex()
 
     def bytes_of(self, offset, length):
         """Bytes of the stream; zeros for those that no capture has."""
-        found, place = bytearray(length), self._place(offset)
-        while place < len(self.spans) and self.spans[place][0] < offset + length:
-            start, data = self.spans[place]
-            piece = data[max(0, offset - start):offset + length - start]
-            at = max(0, start - offset)
-            found[at:at + len(piece)] = piece
-            place += 1
+        found, end = bytearray(length), offset + length
+        for place in range(self._place(offset), bisect_left(self.starts, end)):
+            span = self.spans[place]
+            first, stop = max(offset, span.start), min(end, span.stop)
+            found[first - offset:stop - offset] = span.bytes(first, stop)
         return bytes(found)
 
 

@@ -19,12 +19,12 @@ def refuse(connection):
 
 def refuse_packets(connection, packets):
     """Refuses a connection with a packet that has no line in a trace."""
+    if packets and 0 in (connection.client[1], connection.server[1]):
+        raise Problem(f"{named(connection, packets[0])} has port 0, which no connection can have", LEAVE_OUT)
     for packet in packets:
-        if 0 in (connection.client[1], connection.server[1]):
-            raise Problem(f"{named(connection, packet)} has port 0, which no connection can have", LEAVE_OUT)
-        if packet.lacks_header:
+        if packet.missing > packet.size:
             raise Problem(f"the capture cut the TCP header of {named(connection, packet)}: {WIDER}", WIDER)
-        if are_damaged(options(packet.segment)):
+        if (given := options(packet.segment)) and are_damaged(given):
             raise Problem(f"{named(connection, packet)} has a TCP option of a wrong length", LEAVE_OUT)
 
 

@@ -91,18 +91,22 @@ class Writer:
         if action.verb == "open":
             connection = endpoint.connection
             return f"B open {endpoint.host} {connection.client[1]} {connection.server[1]}"
-        words = (self.word(word, endpoint.connection) for word in action.words)
-        return " ".join(["B", action.verb, str(self.numbers[id(endpoint)]), *words])
+        words = "".join([f" {self.word(word, endpoint.connection)}" for word in action.words])
+        return f"B {action.verb} {self.numbers[id(endpoint)]}{words}"
 
     def end_text(self, action):
         """The words of a call's end."""
-        return " ".join(["E", *(self.word(word, action.endpoint.connection) for word in action.answer)])
+        return "E" + "".join([f" {self.word(word, action.endpoint.connection)}" for word in action.answer])
 
     def word(self, word, connection):
         """A word of a call or an answer on a connection."""
-        if isinstance(word, Endpoint):
-            return str(self.numbers[id(word)])
-        return self.bytes_of(word, connection).hex() if isinstance(word, Data) else str(word)
+        if isinstance(word, Data):
+            return self.hex_of(word, connection)
+        return self.numbers[id(word)] if isinstance(word, Endpoint) else word
+
+    def hex_of(self, data, connection):
+        """The bytes of a call, as digits."""
+        return self.bytes_of(data, connection).hex()
 
     def bytes_of(self, data, connection):
         """The bytes of a call: from the log, else from the captures; zeros for bytes that neither has."""
@@ -144,18 +148,18 @@ class Writer:
     def segments(self):
         """The lines of all captured segments, in the order of each capture."""
         flows = {id(connection): Flow(connection, self.notes, self.both) for connection in self.case.connections}
-        for line, connection, packet in self.ordered():
-            yield from self.pieces(flows[id(connection)], line, packet)
+        for (letter, host, moment), connection, packet in self.ordered():
+            for digits in self.digits(flows[id(connection)], letter, packet):
+                yield Line(moment, THREADS[letter, host], f"{letter} {host} {digits}")
 
     @staticmethod
-    def pieces(flow, line, packet):
-        """The lines of a captured segment, with its letter, host and moment: as many as it has on the wire."""
-        letter, host, moment = line
-        for piece in flow.went_out(packet) if letter == "O" else flow.came_in(packet):
-            if len(piece) > LONGEST_SEGMENT:
-                raise Problem(f"{packet.place}: a segment of {len(piece)} bytes", OFFLOADS_OFF,
-                              f"use --kernel plain for a pair; else {OFFLOADS_OFF}")
-            yield Line(moment, THREADS[letter, host], f"{letter} {host} {piece.hex()}")
+    def digits(flow, letter, packet):
+        """The digits of the segments that a captured segment had on the wire."""
+        pieces = flow.went_out(packet) if letter == "O" else flow.came_in(packet)
+        if (longest := max(map(len, pieces))) > LONGEST_SEGMENT:
+            raise Problem(f"{packet.place}: a segment of {longest} bytes", OFFLOADS_OFF,
+                          f"use --kernel plain for a pair; else {OFFLOADS_OFF}")
+        return [piece.hex() for piece in pieces]
 
     def ordered(self):
         """Segments with letter, host and moment. Segments sent precede those that the other host received at the same
@@ -186,6 +190,8 @@ class Writer:
 def seen_once(packets, own):
     """A capture of all interfaces has a packet once for each interface that it passes. A packet that the host sent
     counts once, where it was marked as sent, if anywhere; a packet that it received counts where it was not marked."""
+    if all(packet.outgoing is None for packet in packets):
+        return packets
     marked = {packet.source in own for packet in packets if packet.outgoing == (packet.source in own)}
     return [packet for packet in packets
             if packet.outgoing is None or (packet.source in own) not in marked

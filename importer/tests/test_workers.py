@@ -1,0 +1,116 @@
+"""Tests the processes of tcpwit-judge: the order of results, and what SIGTERM leaves."""
+import gzip
+import os
+import signal
+import subprocess
+import sys
+import time
+import unittest
+from unittest import mock
+
+from tcpwit_importer.commands import workers
+from tcpwit_importer.commands.workers import Results
+
+from . import test_judge
+from .wire import Talk
+
+COMMAND = os.path.realpath(f"{__file__}/../../tcpwit-judge")
+# A lab that writes its number to a file and never answers.
+SLOW = """#!/bin/sh
+[ "$*" = judge ] && exit 2
+cat > /dev/null
+echo $$ > {folder}/labs/$$
+exec sleep 60
+"""
+
+
+class Doubling:
+    """Judges numbers. The first one takes longest."""
+
+    @staticmethod
+    def result(number, connection):
+        time.sleep(0.3 if number == 1 else 0)
+        return number, 2 * connection
+
+
+class Order(unittest.TestCase):
+    def test_results_come_in_order(self):
+        connections, expected = list(range(20)), [(at + 1, 2 * at) for at in range(20)]
+        for jobs in (1, 2, 50):
+            for ahead in (workers.AHEAD, 1):
+                with mock.patch.object(workers, "AHEAD", ahead):
+                    self.assertEqual(list(Results(Doubling, connections, jobs).in_order()), expected)
+
+    def test_results_that_wait_count_as_done(self):
+        results = Results(Doubling, list(range(20)), 2)
+        self.assertEqual(results.done, 0)
+        found = results.in_order()
+        next(found)
+        self.assertGreater(results.done, 5)
+        self.assertEqual(len(list(found)), 19)
+        self.assertEqual(results.done, 20)
+
+
+class Terminated(test_judge.WithCaptures):
+    def setUp(self):
+        super().setUp()
+        for name in ("labs", "kept"):
+            os.mkdir(f"{self.folder}/{name}")
+        self.program = f"{self.folder}/slow"
+        with open(self.program, "w", encoding="ascii") as file:
+            file.write(SLOW.format(folder=self.folder))
+        os.chmod(self.program, 0o755)
+
+    def terminated(self, words, labs, source=subprocess.DEVNULL):
+        """Starts the command, and ends it by SIGTERM once so many labs run. Returns its status and messages."""
+        words = [sys.executable, COMMAND, *words, "--lab", self.program, "--host", "client"]
+        with subprocess.Popen(words, stdin=source, stdout=subprocess.DEVNULL, stderr=subprocess.PIPE,
+                              env=os.environ | {"TMPDIR": f"{self.folder}/kept"}) as process:
+            latest = time.monotonic() + 60
+            while len(os.listdir(f"{self.folder}/labs")) < labs and time.monotonic() < latest:
+                time.sleep(0.05)
+            process.terminate()
+            _, error = process.communicate(timeout=60)
+        return process.returncode, error
+
+    def check(self, *found, labs):
+        """Checks that nothing is left."""
+        self.assertEqual(found, (128 + signal.SIGTERM, b""))
+        self.assertEqual(len(os.listdir(f"{self.folder}/labs")), labs)
+        for number in os.listdir(f"{self.folder}/labs"):
+            with self.assertRaises(ProcessLookupError):
+                os.kill(int(number), 0)
+        self.assertEqual(os.listdir(f"{self.folder}/kept"), [])
+
+    def compressed(self):
+        """A compressed capture of three connections, which is copied."""
+        for port in (1, 2):
+            self.talk.frames[0] += Talk(zero=("10.9.0.1", port)).frames[0]
+        name, = self.files(hosts=(0,))
+        with open(name, "rb") as plain, gzip.open(name + ".gz", "wb") as packed:
+            packed.write(plain.read())
+        return name + ".gz"
+
+    def test_one_process(self):
+        self.check(*self.terminated([self.compressed(), "--jobs", "1"], 1), labs=1)
+
+    def test_several_processes(self):
+        self.check(*self.terminated([self.compressed(), "--jobs", "2"], 2), labs=2)
+
+    def test_annotations_and_reports(self):
+        self.check(*self.terminated([self.compressed(), "--jobs", "2", "--annotate", f"{self.folder}/out"], 2), labs=2)
+        self.assertFalse(os.path.exists(f"{self.folder}/out"))
+
+    def test_standard_input_that_goes_on(self):
+        name, = self.files(hosts=(0,))
+        with open(name, "rb") as file:
+            data = file.read()
+        source, sink = os.pipe()
+        self.addCleanup(os.close, sink)
+        os.write(sink, data)
+        with open(source, "rb") as file:
+            self.check(*self.terminated(["-", "--jobs", "2", "--idle", "1"], 1, file), labs=1)
+
+
+if __name__ == "__main__":
+    unittest.main()
