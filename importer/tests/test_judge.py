@@ -16,9 +16,11 @@ from tcpwit_importer.commands.tcpwit_judge import main
 
 from .wire import SECOND, Talk, ethernet, ip_packet, pcap, segment
 
-# Answers `judge` by what the test chose, saves the trace, and makes a case and a picture if requested.
+# Answers `judge` by what the test chose, saves the trace, and makes a case and a picture if requested. It doesn't judge
+# many traces.
 SCRIPT = """#!/bin/sh
 [ "$*" = judge ] && exit 2
+case "$*" in *--many) exit 3 ;; esac
 echo "$@" >> {folder}/words
 if [ "$1" = draw ]; then echo '<svg/>'; exit 0; fi
 if [ "$1" = explain ]; then echo 'explained'; exit 1; fi
@@ -26,6 +28,18 @@ cat > {folder}/given
 for word; do [ "$before" = --case ] && echo 'a case' > "$word"; before=$word; done
 cat {folder}/answer
 exit {status}
+"""
+# Answers a trace, or many.
+MANY = """#!/bin/sh
+[ "$*" = judge ] && exit 2
+echo "$@" >> {folder}/words
+case "$*" in
+  *--many) while read -r line; do
+      echo "$line" >> {folder}/given
+      if [ "$line" = end ]; then echo '{answer}'; fi
+    done ;;
+  *) cat > /dev/null; echo '{answer}' ;;
+esac
 """
 YES = {"levels": [{"level": "full", "answer": "yes", "lines": 57, "hidden": 88}],
        "said": ["full      yes 57 88", "The run follows RFC 9293."]}
@@ -116,7 +130,7 @@ class Lines(WithCaptures):
         self.assertEqual((status, error), (0, ""))
         self.assertEqual(out,
                          f"10.9.0.1:4000 -> 10.9.0.2:80   full      yes 57 88\n1 connection: 1 yes, 0 no. {INFERRED}")
-        self.assertEqual(self.text("words"), "judge --json --least full --case /dev/null\n")
+        self.assertEqual(self.text("words"), "judge --json --least full\n")
         self.assertIn("hosts 2\n", self.text("given"))
 
     def test_a_no(self):
@@ -166,10 +180,10 @@ class Lines(WithCaptures):
 
     def test_options_of_judge(self):
         run(*self.files(), *self.lab(), "--level", "none", "--slack", "any", "--budget", "7")
-        self.assertIn("judge --json --least none --slack any --budget 7 --case ", self.text("words"))
+        self.assertIn("judge --json --least none --slack any --budget 7\n", self.text("words"))
         self.assertIn("\nslack any\n", self.text("given"))
         run(*self.files(), *self.lab(), "--level", "none", "--from", "recovery")
-        self.assertIn("judge --json --least none --from recovery --case ", self.text("words"))
+        self.assertIn("judge --json --least none --from recovery\n", self.text("words"))
         run(*self.files(), *self.lab(), "--minrto", "1000000", "--initial", "5681", "--grain", "1", "--msl", "2")
         self.assertIn("\nmsl 2\ngrain 1\nminrto 1000000\nextra 65535\ninitial 5681\n", self.text("given"))
 
@@ -435,6 +449,21 @@ class Faults(WithCaptures):
             os.remove(f"{self.folder}/words")
             run(*self.files(hosts=(0,)), *self.lab(answer, 1), "--host", "client")
             self.assertEqual(self.text("words").count("judge --json"), 1)
+
+    def test_small_connections_share_a_process(self):
+        with open(f"{self.folder}/many", "w", encoding="ascii") as file:
+            file.write(MANY.format(folder=self.folder, answer=json.dumps(YES | {"status": 0})))
+        os.chmod(f"{self.folder}/many", 0o755)
+        for host in (0, 1):
+            for port in (4001, 4002, 4003):
+                self.talk.frames[host] += Talk(zero=("10.9.0.1", port), at=port * 10**9).frames[host]
+        words = [*self.files(), "--lab", f"{self.folder}/many", "--jobs", "1"]
+        self.assertIn("4 connections: 4 yes, 0 no.", run(*words)[1])
+        self.assertEqual(self.text("words"), "judge --json --least full --many\n")
+        self.assertEqual(self.text("given").count("\ncongestion full\n"), 4)
+        with mock.patch("tcpwit_importer.commands.verdicts.SMALL", 0):
+            run(*words)
+        self.assertEqual(self.text("words").splitlines()[1:], ["judge --json --least full"] * 4)
 
     def test_a_bug_concerns_one_connection(self):
         with mock.patch("tcpwit_importer.commands.verdicts.Trace", side_effect=ValueError("x")):

@@ -18,7 +18,7 @@ COMMAND = os.path.realpath(f"{__file__}/../../tcpwit-judge")
 # A lab that writes its number to a file and never answers.
 SLOW = """#!/bin/sh
 [ "$*" = judge ] && exit 2
-cat > /dev/null
+read line
 echo $$ > {folder}/labs/$$
 exec sleep 60
 """

@@ -194,6 +194,7 @@ def judge_files(options, program, notes):
             places.decide(connections)
             notes.said += places.lines()
         judges = Judge(program, {capture.name: capture for capture in captures}, roles, options, header_values(options))
+        stack.callback(judges.close)
         if judges.clock != SAME:
             notes.say(f"{said(judges.clock)} (host 0 is that of {captures[0].name})")
         output = Output(options, [str(connection) for connection in connections])

@@ -1,5 +1,4 @@
 """Judges one connection: reads its packets, infers its calls, and runs `tcpwit_lab judge` on the trace."""
-import contextlib
 import json
 import os
 import re
@@ -27,6 +26,7 @@ from . import lab, spawned
 from .ladder import ladder
 from .refusals import refusals_of
 from .retransmissions import Witness
+from .standing import Standing
 from .wireshark import Captured, named, placed
 
 # What the line of a verdict has after its first word.
@@ -40,6 +40,8 @@ RULES = {"(rules 40 to 52)": "(rules 40 to 47 and 49 to 52)",
 FAULT, TOO_LONG, NUMBER = re.compile(r"bad trace (\d+) \d+ \d+ (.+)"), "too-many-lines", "number"
 # The strictest level of a connection that began before the capture: its congestion window isn't known.
 STRICTEST = "recovery"
+# Up to so many segments, one process judges many connections.
+SMALL = 200
 # The rank of its best answer.
 BEST = (False, LEVELS.index(STRICTEST))
 
@@ -158,6 +160,8 @@ class Judge:
         self.clock = roles.clock()
         # For each program, the variables would be encoded again.
         self.environment = dict(os.environb)
+        # The processes that judge small connections, by their options. Each worker process starts its own.
+        self.standing = {}
 
     @without_collection
     def result(self, number, indexed, moment=None):
@@ -281,19 +285,42 @@ class Judge:
 
     def run(self, trace, found):
         """Judges a trace that isn't kept."""
-        # With a file for the case, `judge` also says which lines of the trace it has.
-        with contextlib.ExitStack() as stack:
-            case = os.devnull
-            if self.options.annotate:
-                case = os.path.join(stack.enter_context(tempfile.TemporaryDirectory(prefix="tcpwit-judge-")), "case")
-            self.read(found, trace, case, *self.answer(trace, [self.program, *self.words(found), "--case", case]))
+        words = self.words(found)
+        if self.options.annotate:
+            with tempfile.TemporaryDirectory(prefix="tcpwit-judge-") as folder:
+                case = os.path.join(folder, "case")
+                self.read(found, trace, case, *self.answer(trace.lines(), [*words, "--case", case]))
+        elif found.segments > SMALL:
+            self.read(found, trace, None, *self.answer(trace.lines(), words))
+        else:
+            lines = list(trace.lines())
+            self.read(found, trace, None, *(self.answer_of_many(lines, words) or self.answer(lines, words)))
 
-    def answer(self, trace, words):
-        """What a program that reads a trace prints, on both outputs, and its status."""
+    def answer_of_many(self, lines, words):
+        """The answer to a trace of a process that judges many. None: it gives none, or says what is wrong, so that a
+        process has to judge the trace alone."""
+        key = tuple(words)
+        if key not in self.standing:
+            self.standing[key] = Standing([self.program, *words, "--many"], self.environment)
+        line = self.standing[key].answer(lines)
         try:
-            return spawned.run(words, trace.lines(), self.environment)
+            status = json.loads(line or "")["status"]
+        except ValueError:
+            return None
+        return spawned.Done(line, b"", status) if status in (lab.YES, lab.NO) else None
+
+    def close(self):
+        """Ends the processes that judge many connections."""
+        for process in self.standing.values():
+            process.end()
+        self.standing = {}
+
+    def answer(self, lines, words):
+        """What a process that judges a trace with these lines prints, on both outputs, and its status."""
+        try:
+            return spawned.run([self.program, *words], lines, self.environment)
         except OSError as error:
-            raise Problem(f"{words[0]}: {error.strerror}", lab.NAME_IT) from error
+            raise Problem(f"{self.program}: {error.strerror}", lab.NAME_IT) from error
 
     def report(self, name, trace, found):
         """Judges a trace that is kept in the file with this name, with its case, its picture and the explanation."""
