@@ -1,0 +1,152 @@
+"""What one end of a connection sends, as a capture shows it: which segments are sent again, and why; and how long the
+other end takes to acknowledge.
+
+Positions are sequence numbers that don't wrap.
+"""
+from array import array
+from collections import deque
+
+from ..capture.segments import FIN, SYN, WRAP, listed, options
+from .ranges import Holes, Ranges
+
+# Why a segment was sent again.
+TIMEOUT, FAST, TAIL_PROBE, ANSWER, UNNEEDED = CAUSES = ("timeout", "fast", "tail_probe", "answer", "unneeded")
+# What other segments are.
+OUT_OF_ORDER, KEEP_ALIVE, WINDOW_PROBE = "out_of_order", "keep_alives", "window_probes"
+# The kind of the option with received ranges (RFC 2018, 3), and how many duplicate acknowledgments show a loss (RFC
+# 5681, 3.2).
+SACK, THREE = 5, 3
+# A retransmission that an acknowledgment causes passes the capture at most a round trip after it. So many nanoseconds
+# are added, since later ones may take longer; a timer needs more.
+LATER = 10**8
+# How many segments wait for an acknowledgment at most, to measure round trips.
+WAITING = 10_000
+
+
+class Sender:
+    """One end. `initial` is the number of its SYN, `next` the position after the last that it sent, and `acked` the first
+    that isn't acknowledged; they are None until something shows them. `window` is the last that it announced, without a shift, `latest` its last segment
+    with ACK, and `heard` the moment of that. `syn_again` says that its SYN came again and wasn't answered since, and
+    `answers_again` that its last SYN answers such a one. `trips` has the round trips in nanoseconds."""
+
+    def __init__(self):
+        self.packets = self.bytes = self.repeated = self.duplicates = 0
+        self.initial = self.next = self.acked = self.window = self.latest = None
+        self.heard, self.is_acked, self.syn_again, self.answers_again = 0, False, False, False
+        self.trips, self.waiting = array("q"), deque(maxlen=WAITING)
+        self.again, self.holes = Ranges(), Holes()
+        # Why what is below `until` is sent again, and up to where it was.
+        self.cause, self.until, self.repaired = None, 0, 0
+
+    def begin(self, number):
+        """Its SYN has this number. What came before it belongs to an earlier connection."""
+        self.initial = self.next = self.acked = number
+        self.is_acked, self.again, self.holes = False, Ranges(), Holes()
+        self.waiting.clear()
+
+    def position(self, number):
+        """The position of a sequence number."""
+        distance = (number - self.next) % WRAP
+        return self.next + distance - (WRAP if distance >= WRAP // 2 else 0)
+
+    def has_sent(self, number):
+        """Whether everything below a sequence number was sent."""
+        return self.next is not None and (self.next - number) % WRAP < WRAP // 2
+
+    def is_next(self, number):
+        """Whether a sequence number is the next one."""
+        return (number - self.next) % WRAP == 0
+
+    def sends(self, number, size, flags, moment, other, trip):
+        """The end sends a segment that isn't a reset. Returns what it is, if it isn't just new. A round trip of the
+        connection takes `trip`."""
+        if self.next is None:
+            self.next = self.acked = number
+        start = self.position(number)
+        length = size + bool(flags & SYN) + (flags & FIN)
+        if start == self.next and not (size == 1 and other.window == 0):
+            self.add(start + length, moment, length)
+            return None
+        top = max(self.next, self.acked)
+        if size <= 1 and not flags & (SYN | FIN):
+            if other.window == 0 and self.acked - 1 <= start < top + size:
+                return WINDOW_PROBE
+            if start == top - 1 and self.acked == top:
+                return KEEP_ALIVE
+        if not length:
+            return None
+        kind = None
+        if start < self.next:
+            kind = self.sends_again(start, size, flags, moment, other, trip)
+        elif start > top:
+            self.holes.add(top, start, moment)
+        self.add(start + length, moment, length)
+        return kind
+
+    def add(self, end, moment, length):
+        """The end has sent everything up to a position, at least."""
+        if length and end > self.next:
+            self.next = end
+            self.waiting.append((end, moment))
+
+    def sends_again(self, start, size, flags, moment, other, trip):
+        """A segment begins with a position that was sent before. Returns what it is."""
+        first = start + bool(flags & SYN)
+        end = min(first + size + (flags & FIN), self.next)
+        missing, since = self.holes.fill(first, min(first + size, end))
+        self.repeated += max(0, min(first + size, end) - first - missing)
+        if flags & FIN:
+            found, since_then = self.holes.fill(first + size, end)
+            missing, since = missing + found, since_then if since is None else since
+        if end > self.acked:
+            self.again.add(max(start, self.acked), end)
+        if missing and moment - since < trip and not (start == self.acked and self.duplicates >= THREE):
+            return OUT_OF_ORDER
+        if not missing and end <= self.acked:
+            return UNNEEDED
+        if flags & SYN and self.answers_again:
+            return ANSWER
+        return self.cause_of(start, first + size + (flags & FIN), other, moment - other.heard <= trip + LATER)
+
+    def cause_of(self, start, end, other, is_soon):
+        """Why the end sends these positions again, which aren't acknowledged: soon after an acknowledgment or not."""
+        if self.cause == TIMEOUT:
+            return TIMEOUT
+        shows_loss = self.duplicates >= THREE or other.reports_beyond(end, self)
+        if is_soon and (start >= self.repaired if self.cause else shows_loss):
+            cause = FAST
+        elif not self.cause and self.is_acked and start > self.acked and end == self.next:
+            return TAIL_PROBE
+        else:
+            cause = TIMEOUT
+        if cause != self.cause:
+            self.cause, self.until = cause, self.next
+        self.repaired = end
+        return cause
+
+    def reports_beyond(self, position, sender):
+        """Whether the last acknowledgment of this end says that it received something of the sender beyond a
+        position."""
+        if self.latest is None:
+            return False
+        return any(sender.position(int.from_bytes(value[at:at + 4], "big")) > position
+                   for kind, value in listed(options(self.latest)) if kind == SACK for at in range(4, len(value), 8))
+
+    def acknowledged(self, number, moment):
+        """What the end sent is acknowledged. Returns whether it was before."""
+        if self.next is None:
+            self.next = self.acked = number
+        position = self.position(number)
+        if position <= self.acked and self.is_acked:
+            return position == self.acked
+        sent = None
+        while self.waiting and self.waiting[0][0] <= position:
+            sent = self.waiting.popleft()
+        if sent and sent[0] == position and not self.again.have(self.acked, position):
+            self.trips.append(moment - sent[1])
+        self.again.drop(position)
+        self.holes.drop(position)
+        self.acked, self.is_acked, self.duplicates = position, True, 0
+        if self.cause and position >= self.until:
+            self.cause = None
+        return False
