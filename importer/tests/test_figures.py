@@ -1,5 +1,6 @@
 """Tests figures on small captures. What each packet is, and each time, was counted by the RFCs."""
 import io
+import random
 import unittest
 
 from tcpwit_importer.capture.connections import Connection
@@ -244,6 +245,7 @@ class Retransmissions(unittest.TestCase):
         talk.add(30, 1, 1, 151)
         # It has 50 bytes again, and 50 new ones.
         talk.add(1100, 0, 151, data=FULL)
+        talk.add(1105, 1, 1, 251)
         talk.add(1110, 0, 251, data=FULL, flags=FIN | ACK)
         talk.add(2110, 0, 251, data=FULL, flags=FIN | ACK)
         client, _ = talk.figures()
@@ -515,6 +517,26 @@ class Bounds(unittest.TestCase):
             holes.fill(10 * number + 1, 10 * number + 2)
         self.assertEqual([len(each) for each in (ranges.starts, ranges.stops, holes.starts, holes.stops,
                                                  holes.moments)], [LIMIT] * 5)
+
+    def test_any_packets(self):
+        chance = random.Random(95)
+        for _ in range(30):
+            talk = Exchange(handshake=chance.random() < 0.5, first=(chance.choice((1000, 2**32 - 200)), 5000))
+            for at in range(300):
+                host, wild = chance.randrange(2), chance.random() < 0.02
+                reach = 2**32 if wild else 600
+                flags = chance.choice((ACK, ACK, ACK, FIN | ACK, SYN, RST | ACK))
+                talk.add(20 + at * chance.random(), host, chance.randrange(reach), chance.randrange(reach),
+                         bytes(chance.choice((0, 0, 1, 100))), flags, chance.choice((0, 1000)))
+            analysis = Analysis(CLIENT)
+            for packet in talk.packets():
+                self.assertLessEqual(len(analysis.add(packet)), 2)
+                for sender in analysis.senders:
+                    edges = [edge for pair in zip(sender.again.starts, sender.again.stops) for edge in pair]
+                    self.assertEqual(edges, sorted(set(edges)))
+                    edges = [edge for pair in zip(sender.holes.starts, sender.holes.stops) for edge in pair]
+                    self.assertEqual(edges, sorted(edges))
+                    self.assertTrue(all(map(int.__lt__, sender.holes.starts, sender.holes.stops)))
 
     def test_round_trips_are_bounded(self):
         talk = Exchange()

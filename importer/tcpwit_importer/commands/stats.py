@@ -9,6 +9,9 @@ WORDS = {TIMEOUT: "timeout", FAST: "fast", TAIL_PROBE: "tail probe", ANSWER: "an
 # What a line of --stats has if there are any.
 COUNTED = {DUPLICATE_ACK: "duplicate ACK", ZERO_WINDOW: "zero window", WINDOW_PROBE: "window probe",
            KEEP_ALIVE: "keep-alive"}
+# The rows of a report's table.
+ROWS = {OUT_OF_ORDER: "Out of order", DUPLICATE_ACK: "Duplicate ACKs", ZERO_WINDOW: "Zero windows",
+        WINDOW_PROBE: "Window probes", WINDOW_UPDATE: "Window updates", KEEP_ALIVE: "Keep-alives"}
 OTHERS = (OUT_OF_ORDER, *COUNTED, WINDOW_UPDATE)
 MILLISECOND = 10**6
 
@@ -17,11 +20,16 @@ def lines(figures):
     """The lines below a connection's line; none without figures."""
     if not figures:
         return []
-    found = [trips(end.trips) for end in figures]
-    width, first, last = max(map(len, found)), figures[0].first, figures[0].last
-    rows_found = [f"    {name}{counted(end.packets, 'packet'):>16}{end.bytes:>16,} bytes   {words:<{width}}   {events(end)}"
-                  for name, end, words in zip(ENDS, figures, found)]
-    return [*map(str.rstrip, rows_found), f"    time      {seconds(first)} to {seconds(last)} ({seconds(last - first)})"]
+    times = [trips(end.trips) for end in figures]
+    width = max(map(len, times))
+    ends = [f"    {name}{counted(end.packets, 'packet'):>16}{end.bytes:>16,} bytes   {words:<{width}}   {events(end)}"
+            for name, end, words in zip(ENDS, figures, times)]
+    return [*map(str.rstrip, ends), f"    time      {lasting(figures[0])}"]
+
+
+def lasting(end):
+    """When a connection's packets were captured."""
+    return f"{seconds(end.first)} to {seconds(end.last)} ({seconds(end.last - end.first)})"
 
 
 def trips(found):
@@ -39,15 +47,17 @@ def milliseconds(time):
 
 def events(end):
     """What an end sent again and why, and other segments of which there are some."""
-    sent = end.retransmissions
-    found = [f"{counted(sum(sent.values()), 'retransmission')} ({causes(sent)})"] if any(sent.values()) else []
+    again = sent_again(end)
+    found = [again.replace(" ", " sent again ", 1)] if again else []
     found += [f"{end.kinds[OUT_OF_ORDER]} out of order"] if end.kinds[OUT_OF_ORDER] else []
     return "; ".join(found + [counted(end.kinds[kind], words) for kind, words in COUNTED.items() if end.kinds[kind]])
 
 
-def causes(sent):
-    """How many retransmissions each cause has, if any."""
-    return ", ".join(f"{count} {WORDS[cause]}" for cause, count in sent.items() if count)
+def sent_again(end):
+    """How many segments an end sent again, with the causes; empty if none."""
+    sent = {cause: count for cause, count in end.retransmissions.items() if count}
+    causes = ", ".join(f"{count} {WORDS[cause]}" for cause, count in sent.items())
+    return f"{sum(sent.values())} ({causes})" if sent else ""
 
 
 def members(figures):
@@ -68,14 +78,16 @@ def of_end(end):
 
 
 def rows(figures):
-    """The rows of a report's table: what is counted, and the value of each end."""
+    """The rows of a report's table: what is counted, and the value of each end. What neither end has is left out,
+    except in the first rows."""
     yield "Packets", [f"{end.packets:,}" for end in figures]
-    yield "Bytes", [f"{end.bytes:,}" + (f" ({end.repeated:,} repeated)" if end.repeated else "") for end in figures]
-    yield "Round trips", [f"{trips(end.trips)}" for end in figures]
-    yield "Retransmissions", [f"{sum(end.retransmissions.values())}" +
-                              (f" ({causes(end.retransmissions)})" if any(end.retransmissions.values()) else "")
-                              for end in figures]
-    for name, kind in (("Out of order", OUT_OF_ORDER), ("Duplicate ACKs", DUPLICATE_ACK),
-                       ("Zero windows", ZERO_WINDOW), ("Window probes", WINDOW_PROBE), ("Keep-alives", KEEP_ALIVE)):
-        yield name, [str(end.kinds[kind]) for end in figures]
-    yield "Time", [f"{seconds(end.first)} to {seconds(end.last)}: {seconds(end.last - end.first)}" for end in figures]
+    yield "Bytes", [f"{end.bytes:,}" + (f" ({end.repeated:,} of them again)" if end.repeated else "")
+                    for end in figures]
+    yield "Round trips", [trips(end.trips) for end in figures]
+    yield "Retransmissions", [sent_again(end) or "0" for end in figures]
+    for kind, name in ROWS.items():
+        if any(end.kinds[kind] for end in figures):
+            yield name, [f"{end.kinds[kind]:,}" for end in figures]
+    yield "Time", [lasting(end) for end in figures]
+    if len({end.capture for end in figures}) > 1:
+        yield "Capture", [end.capture for end in figures]

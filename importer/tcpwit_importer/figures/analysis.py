@@ -73,7 +73,7 @@ class Analysis:
         """The kind of a segment that only acknowledges again what was acknowledged (RFC 5681, 2)."""
         if window != own.window:
             return (WINDOW_UPDATE,)
-        if other.next == other.acked:
+        if other.next <= other.acked:
             return ()
         other.duplicates += 1
         return (DUPLICATE_ACK,)

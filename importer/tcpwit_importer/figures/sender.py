@@ -24,10 +24,11 @@ WAITING = 10_000
 
 
 class Sender:
-    """One end. `initial` is the number of its SYN, `next` the position after the last that it sent, and `acked` the first
-    that isn't acknowledged; they are None until something shows them. `window` is the last that it announced, without a shift, `latest` its last segment
-    with ACK, and `heard` the moment of that. `syn_again` says that its SYN came again and wasn't answered since, and
-    `answers_again` that its last SYN answers such a one. `trips` has the round trips in nanoseconds."""
+    """One end. `initial` is the number of its SYN, `next` the position after the last that it sent, and `acked` the
+    first that isn't acknowledged; they are None until something shows them. `window` is the last one that it announced,
+    without a shift, `latest` its last segment with ACK, and `heard` the moment of that. `syn_again` says that its SYN
+    came again and wasn't answered since, and `answers_again` that its last SYN answers such a one. `trips` has the
+    round trips in nanoseconds."""
 
     def __init__(self):
         self.packets = self.bytes = self.repeated = self.duplicates = 0
@@ -92,34 +93,37 @@ class Sender:
     def sends_again(self, start, size, flags, moment, other, trip):
         """A segment begins with a position that was sent before. Returns what it is."""
         first = start + bool(flags & SYN)
-        end = min(first + size + (flags & FIN), self.next)
-        missing, since = self.holes.fill(first, min(first + size, end))
-        self.repeated += max(0, min(first + size, end) - first - missing)
+        stop = first + size
+        end = stop + (flags & FIN)
+        old = min(end, self.next)
+        missing, since = self.holes.fill(first, min(stop, old))
+        self.repeated += max(0, min(stop, old) - first - missing)
         if flags & FIN:
-            found, since_then = self.holes.fill(first + size, end)
-            missing, since = missing + found, since_then if since is None else since
-        if end > self.acked:
-            self.again.add(max(start, self.acked), end)
+            ended, at = self.holes.fill(stop, old)
+            missing, since = missing + ended, at if since is None else since
+        if old > self.acked:
+            self.again.add(max(start, self.acked), old)
         if missing and moment - since < trip and not (start == self.acked and self.duplicates >= THREE):
             return OUT_OF_ORDER
-        if not missing and end <= self.acked:
+        if not missing and old <= self.acked:
             return UNNEEDED
         if flags & SYN and self.answers_again:
             return ANSWER
-        return self.cause_of(start, first + size + (flags & FIN), other, moment - other.heard <= trip + LATER)
+        return self.cause_of(start, end, other, moment - other.heard <= trip + LATER)
 
     def cause_of(self, start, end, other, is_soon):
         """Why the end sends these positions again, which aren't acknowledged: soon after an acknowledgment or not."""
-        if self.cause == TIMEOUT:
+        repairs = self.cause if start < self.until else None
+        if repairs == TIMEOUT:
             return TIMEOUT
         shows_loss = self.duplicates >= THREE or other.reports_beyond(end, self)
-        if is_soon and (start >= self.repaired if self.cause else shows_loss):
+        if is_soon and (start >= self.repaired if repairs else shows_loss):
             cause = FAST
-        elif not self.cause and self.is_acked and start > self.acked and end == self.next:
+        elif not repairs and self.is_acked and start > self.acked and end == self.next:
             return TAIL_PROBE
         else:
             cause = TIMEOUT
-        if cause != self.cause:
+        if cause != repairs:
             self.cause, self.until = cause, self.next
         self.repaired = end
         return cause
