@@ -10,8 +10,8 @@ from .wire import ONE, SECOND, ZERO, Talk, ethernet, ip_packet, segment
 
 # The connection of the tests as each capture has it. A segment is in transit for 1 ms, and one is sent every 2 ms.
 # Round trips: the SYN takes 3 ms at the client, and the SYN-ACK 1 ms. The client's five bytes and its FIN take 3 ms.
-LINES = ["    client       4 packets               5 bytes   3 round trips: 3.000 / 3.000 / 3.000 ms",
-         "    server       3 packets               0 bytes   2 round trips: 1.000 / 1.000 / 1.000 ms",
+LINES = ["    client          4 packets          5 bytes   3 round trips: 3.000 / 3.000 / 3.000 ms",
+         "    server          3 packets          0 bytes   2 round trips: 1.000 / 1.000 / 1.000 ms",
          "    time      0.000000 s to 0.013000 s (0.013000 s)"]
 
 
@@ -27,8 +27,7 @@ class Shown(WithCaptures):
         _, out, _ = run(*self.files(second, (0,)), *self.lab(), "--host", "client", "--stats")
         lines = out.splitlines()
         self.assertEqual([line.split(":")[0] for line in (lines[0], lines[4])], ["10.9.0.1", "10.9.0.1"])
-        self.assertEqual(lines[1], "    client       2 packets               0 bytes   1 round trip: 3.000 / 3.000 / "
-                         "3.000 ms")
+        self.assertEqual(lines[1], "    client          2 packets          0 bytes   1 round trip: 3.000 ms")
         self.assertEqual(lines[5:7], LINES[:2])
         self.assertEqual(lines[7], "    time      1.000000 s to 1.013000 s (0.013000 s)")
 
@@ -80,8 +79,8 @@ class Shown(WithCaptures):
         status, out, _ = run(*self.files(hosts=(0,)), *self.lab(), "--stats")
         self.assertEqual(status, 2)
         self.assertIn("not judged: the capture has one direction only", out)
-        self.assertIn("    client       4 packets               5 bytes   no round trips\n", out)
-        self.assertIn("    server       0 packets               0 bytes   no round trips\n", out)
+        self.assertIn("    client          4 packets          5 bytes   no round trips\n", out)
+        self.assertIn("    server          0 packets          0 bytes   no round trips\n", out)
 
     def test_an_address_that_it_lacks(self):
         _, out, _ = run(*self.files(hosts=(0,)), *self.lab(), "--host", "10.9.0.7", "--stats")

@@ -22,9 +22,15 @@ def lines(figures):
         return []
     times = [trips(end.trips) for end in figures]
     width = max(map(len, times))
-    ends = [f"    {name}{counted(end.packets, 'packet'):>16}{end.bytes:>16,} bytes   {words:<{width}}   {events(end)}"
+    ends = [f"    {name}{aligned(end.packets, 'packet')}{aligned(end.bytes, 'byte')}   {words:<{width}}   {events(end)}"
             for name, end, words in zip(ENDS, figures, times)]
     return [*map(str.rstrip, ends), f"    time      {lasting(figures[0])}"]
+
+
+def aligned(count, what):
+    """A count with its noun, in columns."""
+    number, _, noun = counted(count, what).partition(" ")
+    return f"{int(number):>11,} {noun:<{len(what) + 1}}"
 
 
 def lasting(end):
@@ -33,10 +39,10 @@ def lasting(end):
 
 
 def trips(found):
-    """Round trips: the least, the median and the greatest."""
+    """Round trips: the least, the median and the greatest, or the only one."""
     if not found:
         return "no round trips"
-    times = " / ".join(milliseconds(time) for time in found[1:])
+    times = " / ".join(milliseconds(time) for time in (found[1:] if found.count > 1 else found[1:2]))
     return f"{counted(found.count, 'round trip')}: {times} ms"
 
 
