@@ -1,10 +1,20 @@
 """Tests how figures are shown: with --stats, in JSON, and in a report."""
 import json
+import os
+import re
+import tarfile
+import tempfile
 import unittest
 
+from tcpwit_importer.capture.connections import connections_of
+from tcpwit_importer.capture.packets import packets_of
 from tcpwit_importer.capture.segments import ACK, FIN, RST, SYN
+from tcpwit_importer.figures.analysis import Analysis
+from tcpwit_importer.problem import Notes
 
+from . import test_annotated
 from .test_judge import NO, WithCaptures, no, run
+from .test_recordings import DATA
 from .test_report_page import WithPages
 from .wire import ONE, SECOND, ZERO, Talk, ethernet, ip_packet, segment
 
@@ -92,6 +102,29 @@ class Shown(WithCaptures):
         _, out, _ = run(*self.files(hosts=(0,)), *self.lab(), "--stats")
         self.assertNotIn("packets", out)
         self.assertNotIn("figures", run(*self.files(hosts=(0,)), *self.lab(), "--json")[1])
+
+
+@unittest.skipUnless(os.environ.get("TCPWIT_LAB"), "TCPWIT_LAB names no program")
+class Causes(unittest.TestCase):
+    # What permits a retransmission, by the witness, and the cause that fits.
+    CAUSES = {"the retransmission timer expired": "timeout", "three duplicate acknowledgments came": "fast"}
+
+    def test_a_witness_has_the_same_ones(self):
+        folder = self.enterContext(tempfile.TemporaryDirectory())
+        with tarfile.open(os.path.join(DATA, "middle.tar.xz")) as archive:
+            archive.extractall(folder)
+        for name, host in (("upload-client", "client"), ("abort-server", "server"), ("slow-client", "client")):
+            run(f"{folder}/{name}.pcap", "--host", host, "--level", "recovery", "--annotate", f"{folder}/made")
+            comments = test_annotated.Answers.comments_in(f"{folder}/made")
+            expected = {count: self.CAUSES[found[1]] for count, texts in comments.items()
+                        if (found := re.search(f"recovery: ({'|'.join(self.CAUSES)})", texts[0]))}
+            with open(f"{folder}/{name}.pcap", "rb") as file:
+                connection, = connections_of({name: packets_of(name, file, Notes())})
+            analysis = Analysis(connection.client)
+            found = {packet.count: kind for packet in connection.packets() for kind in analysis.add(packet)
+                     if kind in self.CAUSES.values()}
+            self.assertTrue(expected)
+            self.assertEqual(found, expected)
 
 
 class Report(WithPages):

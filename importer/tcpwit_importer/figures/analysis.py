@@ -48,7 +48,9 @@ class Analysis:
                     kinds += (ZERO_WINDOW,)
                 elif repeats and not size and not kind and own.window is not None and own.is_next(number):
                     kinds += self.repeated(own, other, window)
-            own.window, own.latest, own.heard = window, packet.segment, packet.moment
+            # An acknowledgment that was overtaken by a later one changes nothing.
+            if repeats is not None:
+                own.window, own.latest, own.heard = window, packet.segment, packet.moment
         return kinds
 
     @staticmethod

@@ -19,6 +19,8 @@ SACK, THREE = 5, 3
 # A retransmission that an acknowledgment causes passes the capture at most a round trip after it. So many nanoseconds
 # are added, since later ones may take longer; a timer needs more.
 LATER = 10**8
+# The largest window: what is further ahead belongs to another connection (RFC 7323, 2.3).
+LARGEST = 1 << 30
 # How many segments wait for an acknowledgment at most, to measure round trips.
 WAITING = 10_000
 
@@ -36,8 +38,8 @@ class Sender:
         self.heard, self.is_acked, self.syn_again, self.answers_again = 0, False, False, False
         self.trips, self.waiting = array("q"), deque(maxlen=WAITING)
         self.again, self.holes = Ranges(), Holes()
-        # Why what is below `until` is sent again, and up to where it was.
-        self.cause, self.until, self.repaired = None, 0, 0
+        # Why what is below `until` is sent again.
+        self.cause, self.until = None, 0
 
     def begin(self, number):
         """Its SYN has this number. What came before it belongs to an earlier connection."""
@@ -66,7 +68,7 @@ class Sender:
         start = self.position(number)
         length = size + bool(flags & SYN) + (flags & FIN)
         if start == self.next and not (size == 1 and other.window == 0):
-            self.add(start + length, moment, length)
+            self.add(start + length, moment)
             return None
         top = max(self.next, self.acked)
         if size <= 1 and not flags & (SYN | FIN):
@@ -74,19 +76,21 @@ class Sender:
                 return WINDOW_PROBE
             if start == top - 1 and self.acked == top:
                 return KEEP_ALIVE
-        if not length:
+        if start > top + LARGEST:
             return None
         kind = None
-        if start < self.next:
-            kind = self.sends_again(start, size, flags, moment, other, trip)
-        elif start > top:
+        if start > top:
+            # What comes before it, even if that is only an acknowledgment, was sent, too.
             self.holes.add(top, start, moment)
-        self.add(start + length, moment, length)
+            self.next = start
+        elif length and start < self.next:
+            kind = self.sends_again(start, size, flags, moment, other, trip)
+        self.add(start + length, moment)
         return kind
 
-    def add(self, end, moment, length):
+    def add(self, end, moment):
         """The end has sent everything up to a position, at least."""
-        if length and end > self.next:
+        if end > self.next:
             self.next = end
             self.waiting.append((end, moment))
 
@@ -101,6 +105,7 @@ class Sender:
         if flags & FIN:
             ended, at = self.holes.fill(stop, old)
             missing, since = missing + ended, at if since is None else since
+        is_third = old > self.acked and self.again.have(max(start, self.acked), old)
         if old > self.acked:
             self.again.add(max(start, self.acked), old)
         if missing and moment - since < trip and not (start == self.acked and self.duplicates >= THREE):
@@ -109,23 +114,23 @@ class Sender:
             return UNNEEDED
         if flags & SYN and self.answers_again:
             return ANSWER
-        return self.cause_of(start, end, other, moment - other.heard <= trip + LATER)
+        may_be_fast = moment - other.heard <= trip + LATER and not is_third
+        return self.cause_of(start, end, may_be_fast and other)
 
-    def cause_of(self, start, end, other, is_soon):
-        """Why the end sends these positions again, which aren't acknowledged: soon after an acknowledgment or not."""
+    def cause_of(self, start, end, other):
+        """Why the end sends these positions again, which aren't acknowledged. `other` is the other end, if it may have
+        asked for them."""
         repairs = self.cause if start < self.until else None
         if repairs == TIMEOUT:
             return TIMEOUT
-        shows_loss = self.duplicates >= THREE or other.reports_beyond(end, self)
-        if is_soon and (start >= self.repaired if repairs else shows_loss):
-            cause = FAST
-        elif not repairs and self.is_acked and start > self.acked and end == self.next:
-            return TAIL_PROBE
-        else:
-            cause = TIMEOUT
+        if not repairs and self.is_acked and start > self.acked:
+            # Recovery and timeouts begin with the first one. If it's the last one, it's a probe; else, the network may
+            # have doubled it.
+            return TAIL_PROBE if end == self.next else TIMEOUT
+        is_fast = other and (repairs or self.duplicates >= THREE or other.reports_beyond(end, self))
+        cause = FAST if is_fast else TIMEOUT
         if cause != repairs:
             self.cause, self.until = cause, self.next
-        self.repaired = end
         return cause
 
     def reports_beyond(self, position, sender):
@@ -137,12 +142,12 @@ class Sender:
                    for kind, value in listed(options(self.latest)) if kind == SACK for at in range(4, len(value), 8))
 
     def acknowledged(self, number, moment):
-        """What the end sent is acknowledged. Returns whether it was before."""
+        """What the end sent is acknowledged. Returns whether it was before; None if more was."""
         if self.next is None:
             self.next = self.acked = number
         position = self.position(number)
         if position <= self.acked and self.is_acked:
-            return position == self.acked
+            return True if position == self.acked else None
         sent = None
         while self.waiting and self.waiting[0][0] <= position:
             sent = self.waiting.popleft()
