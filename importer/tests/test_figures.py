@@ -202,6 +202,16 @@ class Retransmissions(unittest.TestCase):
         talk.add(71, 0, 1, data=FULL)
         self.assertEqual(talk.kinds()[5:], [["tail_probe"], ["duplicate_acks"], ["fast"]])
 
+    def test_what_the_network_doubles(self):
+        # The fourth segment comes twice. Nothing asked for it, and recovery still begins with the first one.
+        talk = self.flight()
+        for at in (30, 31, 32):
+            talk.add(at, 1, 1, 1)
+        talk.add(33, 0, 301, data=FULL)
+        talk.add(34, 0, 1, data=FULL)
+        talk.add(35, 0, 101, data=FULL)
+        self.assertEqual(talk.kinds()[8:], [["timeout"], ["fast"], ["fast"]])
+
     def test_the_only_segment(self):
         talk = self.flight(1)
         talk.add(60, 0, 1, data=FULL)
@@ -321,6 +331,25 @@ class Acknowledgments(unittest.TestCase):
         talk.add(31, 1, 1, 101)
         self.assertEqual(talk.kinds(), [[], [], []])
 
+    def test_the_greatest_acknowledgment_counts(self):
+        # The second one was overtaken: it's no duplicate, and doesn't change the window.
+        talk = Exchange()
+        talk.add(20, 0, 1, data=FULL)
+        talk.add(21, 0, 101, data=FULL)
+        talk.add(30, 1, 1, 101)
+        for at in (31, 32):
+            talk.add(at, 1, 1, 51, window=500)
+        talk.add(33, 1, 1, 101)
+        self.assertEqual(talk.kinds()[2:], [[], [], [], ["duplicate_acks"]])
+
+    def test_an_acknowledgment_shows_what_was_sent(self):
+        # What comes before its number is missing, and comes soon, or late.
+        for at, kind in ((35, "out_of_order"), (45, "timeout")):
+            talk = Exchange()
+            talk.add(30, 0, 101)
+            talk.add(at, 0, 1, data=FULL)
+            self.assertEqual(talk.kinds(), [[], [kind]])
+
     def test_an_old_segment(self):
         # It was reordered: its sender has sent more since.
         talk = Exchange()
@@ -433,6 +462,13 @@ class Connections(unittest.TestCase):
         self.assertEqual(talk.kinds(0), [[]] * 7)
         client, _ = talk.figures()
         self.assertEqual((client.packets, client.trips), (4, (2, 10 * MS, 10 * MS, 10 * MS)))
+
+    def test_what_no_window_can_have(self):
+        # It belongs to another connection, and what follows isn't sent again.
+        talk = Exchange()
+        talk.add(20, 0, 2**30 + 2, data=FULL)
+        talk.add(21, 0, 1, data=FULL)
+        self.assertEqual(talk.kinds(), [[], []])
 
     def test_a_cut_window_is_not_closed(self):
         talk = Exchange()
