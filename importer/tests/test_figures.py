@@ -188,11 +188,23 @@ class Retransmissions(unittest.TestCase):
 
     def test_by_received_ranges(self):
         # One acknowledgment reports that later bytes were received (RFC 8985, 6.2).
-        for ranges, cause in (((201, 501), "fast"), ((1, 51), "timeout")):
+        for ranges, cause in (((201, 501), "fast"), ((1, 51), "timeout"), ((101, 501), "timeout")):
             talk = self.flight()
             talk.add(30, 1, 1, 101, options=sack(*ranges))
             talk.add(33, 0, 101, data=FULL)
             self.assertEqual(talk.kinds()[5:], [[], [cause]])
+
+    def test_several_losses(self):
+        # One acknowledgment may report several (RFC 6675, 5). What is sent after a recovery began may be lost, too.
+        talk = self.flight(6)
+        talk.add(30, 1, 1, 1, options=sack(101, 201, 301, 401))
+        talk.add(31, 0, 1, data=FULL)
+        talk.add(32, 0, 201, data=FULL)
+        for at, number in ((33, 601), (34, 701), (35, 801)):
+            talk.add(at, 0, number, data=FULL)
+        talk.add(40, 1, 1, 101, options=sack(301, 601, 701, 901))
+        talk.add(41, 0, 601, data=FULL)
+        self.assertEqual(talk.kinds()[6:], [["duplicate_acks"], ["fast"], ["fast"], [], [], [], [], ["fast"]])
 
     def test_a_tail_loss_probe(self):
         # The last segment is sent again, before what comes before it (RFC 8985, 7.3).

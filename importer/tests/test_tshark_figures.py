@@ -126,12 +126,13 @@ class Past:
         return next((row for row in reversed(self.other) if row.acknowledged is not None), None)
 
     def duplicates(self):
-        """How many duplicate acknowledgments came last, by tshark's names."""
+        """How many duplicate acknowledgments came last: what tshark calls so, if something was outstanding then."""
         count = 0
         for row in reversed([row for row in self.other if row.acknowledged is not None]):
             if row.acknowledged != self.acknowledged():
                 break
-            count += "duplicate_ack" in row.names
+            count += "duplicate_ack" in row.names and any(
+                distance(each.stop, row.acknowledged) > 0 for each in self.own if each.number < row.number)
         return count
 
     def silence(self):

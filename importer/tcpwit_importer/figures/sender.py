@@ -123,23 +123,26 @@ class Sender:
         repairs = self.cause if start < self.until else None
         if repairs == TIMEOUT:
             return TIMEOUT
-        if not repairs and self.is_acked and start > self.acked:
-            # Recovery and timeouts begin with the first one. If it's the last one, it's a probe; else, the network may
-            # have doubled it.
+        is_first = start <= self.acked or not self.is_acked
+        is_fast = other and (repairs or is_first and self.duplicates >= THREE or other.reports_loss(start, end, self))
+        if not (is_fast or repairs or is_first):
+            # A timeout begins with the first one. If it's the last one, it's a probe; else, the network may have
+            # doubled it.
             return TAIL_PROBE if end == self.next else TIMEOUT
-        is_fast = other and (repairs or self.duplicates >= THREE or other.reports_beyond(end, self))
         cause = FAST if is_fast else TIMEOUT
         if cause != repairs:
             self.cause, self.until = cause, self.next
         return cause
 
-    def reports_beyond(self, position, sender):
-        """Whether the last acknowledgment of this end says that it received something of the sender beyond a
-        position."""
+    def reports_loss(self, start, end, sender):
+        """Whether the last acknowledgment of this end reports that it received something of the sender beyond these
+        positions, but not them."""
         if self.latest is None:
             return False
-        return any(sender.position(int.from_bytes(value[at:at + 4], "big")) > position
-                   for kind, value in listed(options(self.latest)) if kind == SACK for at in range(4, len(value), 8))
+        edges = [sender.position(int.from_bytes(value[at:at + 4], "big"))
+                 for kind, value in listed(options(self.latest)) if kind == SACK for at in range(0, len(value), 4)]
+        received = list(zip(edges[::2], edges[1::2]))
+        return any(stop > end for _, stop in received) and not any(begin <= start < stop for begin, stop in received)
 
     def acknowledged(self, number, moment):
         """What the end sent is acknowledged. Returns whether it was before; None if more was."""
