@@ -194,6 +194,18 @@ class Retransmissions(unittest.TestCase):
             talk.add(33, 0, 101, data=FULL)
             self.assertEqual(talk.kinds()[5:], [[], [cause]])
 
+    def test_a_loss_of_what_was_sent_again(self):
+        # Received ranges show it (RFC 8985, 6.2); duplicates don't.
+        for options, cause in ((sack(101, 601), "fast"), (b"", "timeout")):
+            talk = self.flight()
+            for at in (30, 31, 32):
+                talk.add(at, 1, 1, 1, options=sack(101, 501))
+            talk.add(33, 0, 1, data=FULL)
+            talk.add(34, 0, 501, data=FULL)
+            talk.add(44, 1, 1, 1, options=options)
+            talk.add(45, 0, 1, data=FULL)
+            self.assertEqual(talk.kinds()[8:], [["fast"], [], ["duplicate_acks"], [cause]])
+
     def test_several_losses(self):
         # One acknowledgment may report several (RFC 6675, 5). What is sent after a recovery began may be lost, too.
         talk = self.flight(6)

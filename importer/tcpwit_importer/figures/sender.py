@@ -114,17 +114,17 @@ class Sender:
             return UNNEEDED
         if flags & SYN and self.answers_again:
             return ANSWER
-        may_be_fast = moment - other.heard <= trip + LATER and not is_third
-        return self.cause_of(start, end, may_be_fast and other)
+        return self.cause_of(start, end, other if moment - other.heard <= trip + LATER else None, is_third)
 
-    def cause_of(self, start, end, other):
+    def cause_of(self, start, end, other, is_third):
         """Why the end sends these positions again, which aren't acknowledged. `other` is the other end, if it may have
-        asked for them."""
+        asked for them. If some were already sent again, only received ranges show that they were lost."""
         repairs = self.cause if start < self.until else None
         if repairs == TIMEOUT:
             return TIMEOUT
         is_first = start <= self.acked or not self.is_acked
-        is_fast = other and (repairs or is_first and self.duplicates >= THREE or other.reports_loss(start, end, self))
+        is_fast = other and (other.reports_loss(start, end, self) or
+                             not is_third and (repairs or is_first and self.duplicates >= THREE))
         if not (is_fast or repairs or is_first):
             # A timeout begins with the first one. If it's the last one, it's a probe; else, the network may have
             # doubled it.
