@@ -561,6 +561,7 @@ class Bounds(unittest.TestCase):
         holes.add(10, 20, 1)
         holes.add(30, 40, 2)
         self.assertEqual(holes.fill(0, 10), (0, None))
+        self.assertEqual(holes.fill(15, 15), (0, None))
         self.assertEqual(holes.fill(13, 15), (2, 1))
         self.assertEqual(holes.fill(18, 35), (7, 1))
         self.assertEqual((holes.starts, holes.stops, holes.moments), ([10, 15, 35], [13, 18, 40], [1, 1, 2]))

@@ -60,9 +60,9 @@ def counted_in(name, connection, own, begin):
     for packet in packets:
         for kind in analysis.add(packet):
             kinds[packet.source][kind] += 1
-    moments = [packet.captured - begin for packet in packets]
-    return [Figures(name, min(moments), max(moments), sender.packets, sender.bytes, sender.repeated,
-                    trips_of(sender.trips), found) for sender, found in zip(analysis.senders, kinds.values())]
+    first, last = (choose(packet.captured for packet in packets) - begin for choose in (min, max))
+    return [Figures(name, first, last, sender.packets, sender.bytes, sender.repeated, trips_of(sender.trips), found)
+            for sender, found in zip(analysis.senders, kinds.values())]
 
 
 def trips_of(times):

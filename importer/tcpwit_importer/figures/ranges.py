@@ -49,7 +49,7 @@ class Holes:
     def fill(self, start, stop):
         """These positions are shown. Returns how many of them were among the ranges, and since when; None if none."""
         first, last = bisect_right(self.stops, start), bisect_left(self.starts, stop)
-        if first >= last:
+        if first >= last or start >= stop:
             return 0, None
         found = list(zip(self.starts[first:last], self.stops[first:last], self.moments[first:last]))
         since = found[0][2]
