@@ -115,6 +115,17 @@ class RoundTrips(unittest.TestCase):
         self.assertEqual(talk.trips(), [])
         talk.add(45, 1, 1, 101)
         self.assertEqual(talk.trips(), [25])
+        talk.add(50, 0, 101, data=FULL)
+        talk.add(51, 0, 201, data=FULL)
+        talk.add(60, 1, 1, 251)
+        self.assertEqual(talk.trips(), [25])
+
+    def test_an_acknowledgment_gets_none(self):
+        # Its number shows that 100 bytes were sent before, but not when.
+        talk = Exchange()
+        talk.add(30, 0, 101)
+        talk.add(35, 1, 1, 101)
+        self.assertEqual(talk.trips(), [])
 
     def test_what_was_sent_twice_gives_none(self):
         # Karn's algorithm (RFC 6298, 3).
@@ -226,6 +237,42 @@ class Retransmissions(unittest.TestCase):
         talk.add(71, 0, 1, data=FULL)
         self.assertEqual(talk.kinds()[5:], [["tail_probe"], ["duplicate_acks"], ["fast"]])
 
+    def test_duplicates_of_what_was_acknowledged(self):
+        # They don't ask for what comes then.
+        talk = self.flight()
+        for at in (30, 31, 32):
+            talk.add(at, 1, 1, 1)
+        talk.add(33, 1, 1, 101)
+        talk.add(34, 0, 101, data=FULL)
+        self.assertEqual(talk.kinds()[8:], [[], ["timeout"]])
+
+    def test_a_tail_loss_probe_of_what_was_sent_in_a_recovery(self):
+        talk = self.flight()
+        for at in (30, 31, 32):
+            talk.add(at, 1, 1, 1)
+        talk.add(33, 0, 1, data=FULL)
+        talk.add(34, 0, 501, data=FULL)
+        talk.add(60, 0, 501, data=FULL)
+        self.assertEqual(talk.kinds()[8:], [["fast"], [], ["tail_probe"]])
+
+    def test_after_a_recovery(self):
+        talk = self.flight()
+        for at in (30, 31, 32):
+            talk.add(at, 1, 1, 1)
+        talk.add(33, 0, 1, data=FULL)
+        talk.add(43, 1, 1, 501)
+        talk.add(50, 0, 501, data=FULL)
+        talk.add(51, 0, 601, data=FULL)
+        # It also has what was acknowledged.
+        talk.add(60, 0, 451, data=FULL)
+        self.assertEqual(talk.kinds()[8:], [["fast"], [], [], [], ["timeout"]])
+
+    def test_a_reset_of_another_connection(self):
+        talk = self.flight(1)
+        talk.add(30, 1, 1, 50_000, flags=RST | ACK)
+        talk.add(1020, 0, 1, data=FULL)
+        self.assertEqual(talk.kinds()[1:], [[], ["timeout"]])
+
     def test_what_the_network_doubles(self):
         # The fourth segment comes twice. Nothing asked for it, and recovery still begins with the first one.
         talk = self.flight()
@@ -265,7 +312,10 @@ class Retransmissions(unittest.TestCase):
         talk.add(10, 1, 0, 1, flags=SYN | ACK)
         talk.add(1000, 0, 0, flags=SYN)
         talk.add(1010, 1, 0, 1, flags=SYN | ACK)
-        self.assertEqual(talk.kinds(0), [[], [], ["unneeded"], ["answer"]])
+        talk.add(1020, 0, 1, 1)
+        talk.add(1030, 1, 1, 1, data=FULL)
+        talk.add(2030, 1, 1, 1, data=FULL)
+        self.assertEqual(talk.kinds(0), [[], [], ["unneeded"], ["answer"], [], [], ["timeout"]])
 
     def test_one_byte_that_is_not_acknowledged(self):
         # It has the number of a keep-alive.
@@ -295,6 +345,14 @@ class OutOfOrder(unittest.TestCase):
             talk.add(at, 0, 1, data=FULL)
             self.assertEqual(talk.kinds(), [[], [kind]])
             self.assertEqual(talk.figures()[0].repeated, 0)
+
+    def test_what_was_acknowledged(self):
+        # The capture has it too late, or it's a copy of one that it lost.
+        talk = Exchange()
+        talk.add(20, 0, 101, data=FULL)
+        talk.add(21, 1, 1, 201)
+        talk.add(22, 0, 1, data=FULL)
+        self.assertEqual(talk.kinds(), [[], [], ["unneeded"]])
 
     def test_the_age_of_the_gap_counts(self):
         # New segments still come, but the first one is awaited for more than a round trip.
@@ -405,6 +463,12 @@ class Windows(unittest.TestCase):
                                             ["zero_windows"], ["window_updates"], []])
         client, server = talk.figures()
         self.assertEqual((client.kinds["window_probes"], server.kinds["zero_windows"]), (2, 3))
+
+    def test_a_probe_is_no_duplicate_acknowledgment(self):
+        talk = self.closed()
+        talk.add(40, 1, 1, 101, data=b"hello", window=0)
+        talk.add(1030, 0, 101, 1, data=b"x")
+        self.assertEqual(talk.kinds()[2:], [["zero_windows"], ["window_probes"]])
 
     def test_a_byte_that_is_received(self):
         talk = self.closed()
@@ -530,6 +594,18 @@ class Connections(unittest.TestCase):
         self.assertEqual((client.packets, server.packets, client.bytes), (3, 1, 100))
         self.assertEqual(sum(client.retransmissions.values()), 0)
 
+    def test_loopback_counts_once(self):
+        # `-i any` shows each packet as sent and as received.
+        talk = Exchange()
+        connection = Connection(CLIENT, SERVER, 0)
+        for sent, received in zip(talk.packets(), talk.packets()):
+            sent.outgoing, received.outgoing = True, False
+            connection.add("c", sent)
+            connection.add("c", received)
+        client, server = figures_of(connection, {}, {"c": {CLIENT, SERVER}}, {"c": 100 * SECOND})
+        self.assertEqual((client.packets, server.packets), (2, 1))
+        self.assertEqual(sum(client.retransmissions.values()), 0)
+
     def test_each_host_by_its_own_capture(self):
         talk = Exchange()
         connection = Connection(CLIENT, SERVER, 0)
@@ -607,6 +683,12 @@ class Bounds(unittest.TestCase):
         for packet in talk.packets():
             analysis.add(packet)
         self.assertEqual(len(analysis.senders[0].waiting), 20)
+        talk.add(1030, 0, 1, data=b"x")
+        talk.add(1040, 1, 1, 21)
+        for packet in talk.packets()[-2:]:
+            analysis.add(packet)
+        # What is acknowledged is forgotten.
+        self.assertEqual((len(analysis.senders[0].waiting), analysis.senders[0].again.starts), (0, []))
         self.assertIsNotNone(analysis.senders[0].waiting.maxlen)
 
 

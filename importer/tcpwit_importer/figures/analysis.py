@@ -46,7 +46,8 @@ class Analysis:
             if not flags & (SYN | FIN):
                 if window == 0:
                     kinds += (ZERO_WINDOW,)
-                elif repeats and not size and not kind and own.window is not None and own.is_next(number):
+                elif repeats and not kind and own.window is not None and own.is_next(number):
+                    # It has no bytes, or its number isn't the next one anymore.
                     kinds += self.repeated(own, other, window)
             # An acknowledgment that was overtaken by a later one changes nothing.
             if repeats is not None:

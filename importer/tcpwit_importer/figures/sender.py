@@ -38,7 +38,7 @@ class Sender:
         self.heard, self.is_acked, self.syn_again, self.answers_again = 0, False, False, False
         self.trips, self.waiting = array("q"), deque(maxlen=WAITING)
         self.again, self.holes = Ranges(), Holes()
-        # Why what is below `until` is sent again.
+        # Why what is below `until`, and isn't acknowledged, is sent again.
         self.cause, self.until = None, 0
 
     def begin(self, number):
@@ -110,7 +110,7 @@ class Sender:
             self.again.add(max(start, self.acked), old)
         if missing and moment - since < trip and not (start == self.acked and self.duplicates >= THREE):
             return OUT_OF_ORDER
-        if not missing and old <= self.acked:
+        if old <= self.acked:
             return UNNEEDED
         if flags & SYN and self.answers_again:
             return ANSWER
@@ -119,7 +119,7 @@ class Sender:
     def cause_of(self, start, end, other, is_third):
         """Why the end sends these positions again, which aren't acknowledged. `other` is the other end, if it may have
         asked for them. If some were already sent again, only received ranges show that they were lost."""
-        repairs = self.cause if start < self.until else None
+        repairs = self.cause if max(start, self.acked) < self.until else None
         if repairs == TIMEOUT:
             return TIMEOUT
         is_first = start <= self.acked or not self.is_acked
@@ -159,6 +159,4 @@ class Sender:
         self.again.drop(position)
         self.holes.drop(position)
         self.acked, self.is_acked, self.duplicates = position, True, 0
-        if self.cause and position >= self.until:
-            self.cause = None
         return False
