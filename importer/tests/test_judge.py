@@ -253,7 +253,9 @@ class Lines(WithCaptures):
         first = {"capture": f"{self.folder}/c0.pcap", "packet": 1, "time": 0.0}
         said = f"before packet 1 of {self.folder}/c0.pcap (0.000000 s): {{}} is late."
         levels = [level | first | {"sentence": said.format(level["level"])} for level in NO["levels"]]
-        self.assertEqual(json.loads(out), first | {
+        found = json.loads(out)
+        self.assertEqual(found.pop("figures").keys(), {"client", "server"})
+        self.assertEqual(found, first | {
             "client": "10.9.0.1:4000", "server": "10.9.0.2:80", "begun": 100.0, "segments": 14, "judged": True,
             "hosts": 2, "level": "none", "answer": "no", "status": 1, "witness_line": 7, "trace_line": 8,
             "rule": "ack-late", "sentence": said.format("none"), "levels": levels,

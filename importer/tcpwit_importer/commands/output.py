@@ -4,6 +4,7 @@ import json
 from ..problem import counted, plain
 from .comments import Comments
 from .report_page import Page
+from .stats import lines, members
 from .wireshark import SECOND
 
 INFERRED = ("Calls were inferred: their answers aren't judged.",
@@ -38,6 +39,8 @@ class Output:
             self.page.add(result)
         print(json.dumps(facts(result)) if self.options.json else plain(f"{result.name:<{self.width}}   {result.line}"),
               flush=True)
+        if self.options.stats and not self.options.json:
+            print(*lines(result.figures), sep="\n", end="\n" * bool(result.figures), flush=True)
 
     def finish(self):
         """Prints the summary, unless each line is an object, writes the report's page, and returns the exit status."""
@@ -65,7 +68,7 @@ class Output:
 def facts(result):
     """The facts of a connection, for JSON."""
     found = {"client": result.client, "server": result.server, "begun": result.begun / 10**9,
-             "segments": result.segments}
+             "segments": result.segments} | members(result.figures)
     if result.is_part:
         found["part"] = True
     if not result.levels:

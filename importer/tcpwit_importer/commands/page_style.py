@@ -6,14 +6,16 @@ body { font: 16px/1.4 system-ui, sans-serif; margin: 1rem auto; max-width: 75rem
 h1 { font-size: 1.4rem; } h2 { font-size: 1.15rem; margin-top: 2.5rem; } h3 { font-size: 1rem; }
 table { border-collapse: collapse; width: 100%; }
 th, td { text-align: left; vertical-align: top; padding: .3rem .5rem; }
-.connections td, .connections th, .levels td, .levels th { border-bottom: 1px solid var(--line); }
+.connections td, .connections th, .levels td, .levels th, .figures td, .figures th {
+       border-bottom: 1px solid var(--line); }
 .connections td:nth-child(5), .levels td:nth-child(2) { font-weight: bold; white-space: nowrap; }
 .connections td:nth-child(3) { white-space: nowrap; }
 .connections td:nth-child(5) a { color: inherit; }
 .no td:nth-child(5), .levels .no td:nth-child(2) { color: var(--bad); }
 .yes td:nth-child(5), .levels .yes td:nth-child(2) { color: var(--good); }
 .levels th, .levels td:nth-child(2) { width: 1%; }
-.levels td:nth-child(3), h1, h2, h3, p, code { overflow-wrap: anywhere; }
+.figures { max-width: 48rem; font-size: .9rem; font-variant-numeric: tabular-nums; }
+.levels td:nth-child(3), .figures td, h1, h2, h3, p, code { overflow-wrap: anywhere; }
 code { font-size: .9em; }
 .ladder { max-width: 48rem; font-size: .9rem; font-variant-numeric: tabular-nums; }
 .ladder td:nth-child(1), .ladder td:nth-child(2), .ladder th:nth-child(-n+2) { width: 1%; white-space: nowrap; }

@@ -6,6 +6,7 @@ from urllib.parse import quote
 from ..files import write_file
 from ..problem import counted, plain
 from .page_style import STYLE
+from .stats import ENDS, rows
 from .wireshark import named, seconds
 
 NAME = "index.html"
@@ -38,11 +39,11 @@ class Page:
         self.folder, self.title, self.rows, self.sections = folder, title, [], []
 
     def add(self, result):
-        """Adds a connection. It has a section if something was refused."""
+        """Adds a connection. It has a section if something was refused, or if it has figures."""
         number = len(self.rows) + 1
         refused = [refusal for refusal in result.refusals if refusal]
         self.rows.append(row(number, result, refused))
-        if refused:
+        if refused or result.figures:
             self.sections.append(section(number, result, refused))
 
     def write(self, summary):
@@ -60,7 +61,8 @@ def row(number, result, refused):
     begins = "" if result.start is None else seconds(result.start)
     said = text(result.reason) if not result.levels else \
         f"<a href=\"#c{number}\">{text(refused[-1].sentence)}</a>" if refused else ""
-    cells = (str(number), text(result.name), begins, str(result.segments), verdict(result), said)
+    name = f"<a href=\"#c{number}\">{text(result.name)}</a>" if result.figures else text(result.name)
+    cells = (str(number), name, begins, str(result.segments), verdict(result), said)
     columns = "".join(f"<td data-name=\"{name}\">{cell}</td>" for name, cell in zip(COLUMNS, cells))
     return f"<tr class=\"{result.verdict or 'none'}\">{columns}</tr>\n"
 
@@ -78,8 +80,9 @@ def link(name, words):
 
 
 def section(number, result, refused):
-    """What was refused of a connection: the levels with their reasons, and the packets around."""
-    parts = [f"<section id=\"c{number}\">\n<h2>{number}. {text(result.name)}</h2>\n", levels(result), links(result)]
+    """What was refused of a connection: the levels with their reasons, and the packets around; and its figures."""
+    parts = [f"<section id=\"c{number}\">\n<h2>{number}. {text(result.name)}</h2>\n",
+             levels(result) if refused else "", links(result), figures(result)]
     for place, rungs in result.ladders.items():
         parts.append(ladder(result, [refusal for refusal in refused if refusal.place == place], rungs))
     return "".join(parts) + "</section>\n"
@@ -101,7 +104,17 @@ def links(result):
     kind = "ipv6" if ends[0][0].startswith("[") else "ip"
     words = [f"{kind}.addr == {address.strip('[]')} && tcp.port == {port}" for address, port in ends]
     files = ", ".join(link(name, FILES[os.path.splitext(name)[1]]) for name in result.files)
-    return f"<p>Filter: <code>{text(' && '.join(words))}</code></p>\n<p>Files: {files}</p>\n"
+    return f"<p>Filter: <code>{text(' && '.join(words))}</code></p>\n" + (f"<p>Files: {files}</p>\n" if files else "")
+
+
+def figures(result):
+    """The figures of a connection's ends."""
+    if not result.figures:
+        return ""
+    head = "".join(f"<th scope=\"col\">{text(words)}</th>" for words in ("", *ENDS))
+    body = "".join(f"<tr><th scope=\"row\">{text(name)}</th>{''.join(f'<td>{text(value)}</td>' for value in values)}"
+                   "</tr>\n" for name, values in rows(result.figures))
+    return f"<table class=\"figures\">\n<thead><tr>{head}</tr></thead>\n<tbody>\n{body}</tbody>\n</table>\n"
 
 
 def ladder(result, refused, rungs):

@@ -73,6 +73,9 @@ def parser():
     words.add_argument("--annotate", action="append", type=named_file, metavar="OUT.pcapng",
                        help="write the capture again, with comments on packets: what was refused, and why "
                        "retransmissions are permitted; for two captures, give it twice, in their order")
+    words.add_argument("--stats", action="store_true",
+                       help="print figures below each connection: packets, bytes, round trips, retransmissions by "
+                       "cause, duplicate acknowledgments, closed windows; --json and --report always have them")
     words.add_argument("--json", action="store_true", help="print a JSON object for each connection")
     words.add_argument("--jobs", type=number_within(1, 1024), default=os.cpu_count() or 1, metavar="N",
                        help="how many connections are judged at once (default: one for each processor)")

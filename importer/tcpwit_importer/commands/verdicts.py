@@ -9,6 +9,7 @@ from typing import Any
 
 from ..capture.connections import refuse_gaps
 from ..capture.packets import shown
+from ..figures.figures import figures_of
 from ..files import remove, without_collection, write_file
 from ..infer.begun import beginnings
 from ..infer.conversion import Trace
@@ -52,7 +53,7 @@ class Result:
     `refusals` what each refused, or None; without any, `reason` says why the connection wasn't judged. `ways` has the
     ways of hosts that `judge --json` names. `start` is the time of its first packet; with a report, `ladders` has the
     packets around each one that a level refused. With annotations, `retransmissions` has what permitted each one, by
-    its capture and number."""
+    its capture and number. `figures` has those of the client and the server, if they are wanted."""
     client: str
     server: str
     begun: int
@@ -77,6 +78,7 @@ class Result:
     # If it began before the capture: the first packet judged in each capture, and which lines were made up.
     since: list = field(default_factory=list)
     made_up: range = range(0)
+    figures: list = field(default_factory=list)
 
     @property
     def name(self):
@@ -173,10 +175,13 @@ class Judge:
         try:
             if indexed.client == indexed.server:
                 raise Undecided("it connects a port with itself")
+            connection = indexed.read(self.files, self.layouts)
+            if self.options.stats or self.options.json or self.options.report:
+                found.figures = self.figures(indexed, connection)
             if indexed.fragmented or self.is_fragmented(indexed):
                 raise Problem("the capture has fragments of IP packets with segments between its hosts",
                               "record with a smaller MTU")
-            self.judge(number, indexed, found, moment)
+            self.judge(number, indexed, connection, found, moment)
         except Undecided as reason:
             found.reason = str(reason)
         except Problem as problem:
@@ -191,16 +196,25 @@ class Judge:
             found.reason, found.status = f"{cause}; this is a bug: report it with the capture", 2
         return found
 
+    def figures(self, indexed, connection):
+        """The figures of a connection's ends, each as the capture of its host has them."""
+        try:
+            names = self.roles.assign(indexed)
+        except Undecided:
+            names = {}
+        captures = {end: names.get(host) for end, host in indexed.hosts.items()}
+        begin = {name: layout.first for name, layout in self.layouts.items()}
+        return list(figures_of(connection, captures, indexed.own, begin))
+
     def is_fragmented(self, indexed):
         """Whether segments between a connection's addresses came in fragments, which can't be judged."""
         return any(frozenset((indexed.client[0], indexed.server[0])) in self.layouts[name].fragmented
                    for name in indexed.places)
 
-    def judge(self, number, indexed, found, moment):
-        """Judges a connection."""
+    def judge(self, number, indexed, connection, found, moment):
+        """Judges a connection, which has its packets; `indexed` is the same without them."""
         captures = self.roles.assign(indexed)
         last = {host: moment or self.last[name] for host, name in captures.items()}
-        connection = indexed.read(self.files, self.layouts)
         connection.hosts = indexed.hosts
         refuse(connection)
         self.roles.refuse_unknown(indexed)
