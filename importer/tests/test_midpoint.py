@@ -408,7 +408,7 @@ class Command(test_judge.WithCaptures):
         status, out, error = test_judge.run(*self.files(hosts=(0,)), *self.lab(), "--between")
         self.assertEqual((status, error), (0, ""))
         self.assertEqual(self.text("given").splitlines()[7:10], ["hosts 2", "congestion full", "slack any"])
-        self.assertIn("judge --json --least full --slack any --case ", self.text("words"))
+        self.assertIn("judge --json --least full --slack any\n", self.text("words"))
         self.assertIn("The capture was made between the hosts: ", out)
 
     def test_words(self):

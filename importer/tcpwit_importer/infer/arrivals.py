@@ -6,16 +6,20 @@ beyond the window that it knew. An arrival comes when it passed, unless what is 
 then it comes as soon as it can. So what was lost behind the capture comes only after what shows that.
 """
 import heapq
-from bisect import bisect, bisect_left
+from bisect import bisect_left
+from collections import Counter
 from itertools import accumulate
 
 from ..capture.segments import ACK, WRAP
+from .held import Greatest, Held
 from .passages import moved
 
 # Above each position.
 FAR = 1 << 62
 # How many arrivals before a reset are compared with it.
 NEAR = 100
+# How often an arrival that closes the window too early waits again.
+MOST_AGAIN = 100
 
 
 class Limits:
@@ -54,65 +58,57 @@ class Arrivals:
     def __init__(self, sent, others):
         self.sent, self.others, self.places = sent, others, [each.place for each in others]
         self.limits, self.answered = Limits(sent), answered(sent, others)
-        # What waits: when it's due, its place in the capture, and the arrival.
-        self.held = []
+        # What waits, and how often it did so again. `edges` has all windows' ends.
+        self.held, self.again = Held(others), Counter()
+        self.edges = Greatest([each.edge or 0 for each in others])
         # What came: up to which position without a gap, and what beyond; what was acknowledged, and the window's end.
         self.reached, self.beyond, self.acknowledged, self.edge = 0, [], 0, 0
         self.found = []
 
     def packets(self):
         """All packets of the host, in order."""
-        others = iter(self.others)
-        arrival = next(others, None)
+        passed = 0
         for place, each in enumerate(self.sent):
-            while arrival and arrival.place < each.before:
-                self.hold(arrival)
-                arrival = next(others, None)
+            while passed < len(self.others) and self.others[passed].place < each.before:
+                self.hold(passed)
+                passed += 1
             self.release(place)
             self.found.append(each.packet)
-        while arrival:
-            self.hold(arrival)
-            arrival = next(others, None)
-        self.come(self.held)
+        self.come(sorted(self.held.held) + list(range(passed, len(self.others))))
         return self.found
 
-    def hold(self, arrival):
+    def hold(self, at):
         """An arrival passes. What a reset answers is due just before that."""
+        arrival = self.others[at]
         due = self.answered.get(arrival.place)
-        heapq.heappush(self.held, (self.limits.due(arrival) if due is None else due, arrival.place, arrival))
+        self.held.hold(at, self.limits.due(arrival) if due is None else due)
 
     def release(self, place):
         """Before the segment at a place is sent, what is due comes, and what the segment needs."""
-        due = []
-        while self.held and self.held[0][0] <= place:
-            due.append(heapq.heappop(self.held))
-        self.come(due, place)
+        self.come(self.held.take_due(place), place)
         passage = self.sent[place].passage
-        if self.held and not passage.is_reset and self.needs_more(passage):
-            for entry in sorted(self.held, key=lambda entry: entry[1]):
-                if self.is_needed(entry[2], passage):
-                    self.held.remove(entry)
-                    self.come([entry])
-            heapq.heapify(self.held)
+        while not passage.is_reset and (at := self.needed(passage)) is not None:
+            self.held.take(at)
+            self.come([at])
 
-    def needs_more(self, passage):
-        """Whether a segment acknowledges what didn't come, or has bytes beyond the window."""
-        return (passage.acknowledged or 0) > self.reached or (passage.packet.size > 0 and passage.stop > self.edge)
+    def needed(self, passage):
+        """The first arrival that a segment needs, as it acknowledges what didn't come or has bytes beyond the window;
+        None if none that it needs is held."""
+        found = []
+        if (passage.acknowledged or 0) > self.reached:
+            found.append(self.held.with_position(self.reached))
+        if passage.packet.size > 0 and passage.stop > self.edge:
+            found.append(self.held.with_edge_above(self.edge))
+        return min((at for at in found if at is not None), default=None)
 
-    def is_needed(self, arrival, passage):
-        """Whether a segment that needs more needs this arrival."""
-        if arrival.is_reset:
-            return False
-        if arrival.start <= self.reached < min(arrival.stop, passage.acknowledged or 0):
-            return True
-        return passage.packet.size > 0 and passage.stop > self.edge and (arrival.edge or 0) > self.edge
-
-    def come(self, entries, place=None):
+    def come(self, all_at, place=None):
         """What waited comes, in the order in which it passed: when it passed, or after what came or was sent before. At
         a place of what was sent, what closes the window too early waits again."""
-        for _, at, arrival in sorted(entries, key=lambda entry: entry[1]):
-            if place is not None and (later := self.closes_early(place, arrival)) is not None:
-                heapq.heappush(self.held, (later + 1, at, arrival))
+        for at in all_at:
+            arrival = self.others[at]
+            if place is not None and (later := self.closes_early(place, at)) is not None:
+                self.held.hold(at, later + 1)
+                self.again[at] += 1
                 continue
             moment = arrival.packet.moment + 1
             if self.found:
@@ -130,16 +126,17 @@ class Arrivals:
         while self.beyond and self.beyond[0][0] <= self.reached:
             self.reached = max(self.reached, heapq.heappop(self.beyond)[1])
 
-    def closes_early(self, place, arrival):
+    def closes_early(self, place, at):
         """The place of a segment with bytes beyond the window of an arrival, which makes it smaller, if nothing between
         them permits these bytes; else None."""
-        if arrival.edge is None or arrival.edge >= self.edge or (at := self.limits.extending[place]) is None:
+        edge = self.others[at].edge
+        if edge is None or edge >= self.edge or self.again[at] == MOST_AGAIN:
             return None
-        stop = self.sent[at].passage.stop
-        if not arrival.edge < stop <= self.edge:
+        beyond = self.limits.extending[place]
+        if beyond is None or not edge < (stop := self.sent[beyond].passage.stop) <= self.edge:
             return None
-        between = range(bisect(self.places, arrival.place), bisect_left(self.places, self.sent[at].before))
-        return None if any((self.others[each].edge or 0) >= stop for each in between) else at
+        is_permitted = self.edges.within(at + 1, bisect_left(self.places, self.sent[beyond].before)) >= stop
+        return None if is_permitted else beyond
 
 
 def extending(passages):
