@@ -31,6 +31,10 @@ class Connection:
         """The other end."""
         return self.server if end == self.client else self.client
 
+    def ends_of(self, packet):
+        """The source and the target of a packet, as this connection has them."""
+        return (self.client, self.server) if packet.source == self.client else (self.server, self.client)
+
     def add(self, capture, packet):
         """Adds the next packet of a capture."""
         self.seen.setdefault(capture, []).append(packet)

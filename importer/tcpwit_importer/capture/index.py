@@ -46,9 +46,8 @@ class Indexed(Connection):
         offsets, counts = self.places[capture]
         offsets.append(packet.offset)
         counts.append(packet.count)
-        is_client = packet.source == self.client
-        source = self.client if is_client else self.server
-        self.signs.add(packet, is_client)
+        source, target = self.ends_of(packet)
+        self.signs.add(packet, source is self.client)
         self.senders = with_end(self.senders, source)
         self.others += not packet.flags & (SYN | RST)
         if packet.flags & RST:
@@ -56,7 +55,7 @@ class Indexed(Connection):
         elif packet.flags & FIN and self.ends is not None:
             self.ends = with_end(self.ends, source)
         if packet.outgoing is not None:
-            self.own.setdefault(capture, set()).add(source if packet.outgoing else self.other(source))
+            self.own.setdefault(capture, set()).add(source if packet.outgoing else target)
         if packet.flags & SYN:
             self.initial.setdefault(source, packet.number)
             syns = self.syns.setdefault(capture, {})
