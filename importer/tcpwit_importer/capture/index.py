@@ -126,7 +126,8 @@ class Direction:
     def __init__(self, connection, capture, is_client):
         self.connection = connection
         self.sender = connection.signs.client if is_client else connection.signs.server
-        self.add_offset, self.add_count = (numbers.append for numbers in connection.places[capture])
+        offsets, counts = connection.places[capture]
+        self.add_offset, self.add_count = offsets.append, counts.append
 
 
 class Index:
@@ -143,9 +144,10 @@ class Index:
         self.capture.last = max(self.capture.last, packet.moment)
         key = bytes_of(packet.source, packet.target)
         if packet.flags & (SYN | FIN | RST) or connection.signs.is_answered:
-            for directions in self.known.values():
+            back = bytes_of(packet.target, packet.source)
+            for directions in filter(None, self.known.values()):
                 directions.pop(key, None)
-                directions.pop(bytes_of(packet.target, packet.source), None)
+                directions.pop(back, None)
         elif key not in self.known[packet.outgoing]:
             direction = Direction(connection, self.capture.name, packet.source == connection.client)
             self.known[packet.outgoing][key] = direction
