@@ -264,6 +264,14 @@ class Cut(inferred.Inferring):
             self.assertEqual(stream.bytes_of(10 * at + 2, 10),
                              b"cd" + bytes(6) + (b"ab" if at + 1 < count else bytes(2)))
 
+    def test_many_segments_in_reverse_order(self):
+        stream, count = Stream(1000), 30_000
+        body = segment(ZERO, ONE, 1, 1, ACK, b"abcd")
+        for at in reversed(range(count)):
+            stream.add(SimpleNamespace(number=1001 + 4 * at, flags=ACK, size=4, missing=0, segment=body))
+        self.assertEqual(len(stream.spans), 1)
+        self.assertEqual(stream.bytes_of(2, 4 * count - 4), b"cd" + b"abcd" * (count - 2) + b"ab")
+
     def test_a_retransmission_has_the_same_bytes(self):
         talk = Talk()
         talk.send(0, payload=b"abcdef", lost=True)

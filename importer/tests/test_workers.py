@@ -6,6 +6,7 @@ import subprocess
 import sys
 import time
 import unittest
+from types import SimpleNamespace
 from unittest import mock
 
 from tcpwit_importer.commands import workers
@@ -24,25 +25,38 @@ exec sleep 60
 """
 
 
-class Doubling:
-    """Judges numbers. The first one takes longest."""
+class Naming:
+    """Judges connections of which only the count is known. The first one takes longest."""
 
     @staticmethod
     def result(number, connection):
         time.sleep(0.3 if number == 1 else 0)
-        return number, 2 * connection
+        return number, connection.count
+
+
+def with_counts(counts):
+    """Connections with these counts of packets."""
+    return [SimpleNamespace(count=count) for count in counts]
 
 
 class Order(unittest.TestCase):
     def test_results_come_in_order(self):
-        connections, expected = list(range(20)), [(at + 1, 2 * at) for at in range(20)]
-        for jobs in (1, 2, 50):
-            for ahead in (workers.AHEAD, 1):
-                with mock.patch.object(workers, "AHEAD", ahead):
-                    self.assertEqual(list(Results(Doubling, connections, jobs).in_order()), expected)
+        for count in (1, 20, 100):
+            connections, expected = with_counts(range(count)), [(at + 1, at) for at in range(count)]
+            for jobs in (1, 2, 50):
+                for ahead in (workers.AHEAD, 1):
+                    with mock.patch.object(workers, "AHEAD", ahead):
+                        self.assertEqual(list(Results(Naming, connections, jobs).in_order()), expected)
+
+    def test_groups(self):
+        for counts, jobs, sizes in (([1] * 40, 2, [2] * 20), ([1] * 1000, 1, [32] * 31 + [8]), ([5] * 3, 2, [1] * 3),
+                                    ([9, 990, 2, 3000, 5] + [1] * 95, 1, [3, 1] + [12] * 8)):
+            groups = list(Results(Naming, with_counts(counts), jobs).groups())
+            self.assertEqual([len(group) for group in groups], sizes)
+            self.assertEqual([place for group in groups for place in group], list(range(len(counts))))
 
     def test_results_that_wait_count_as_done(self):
-        results = Results(Doubling, list(range(20)), 2)
+        results = Results(Naming, with_counts(range(20)), 2)
         self.assertEqual(results.done, 0)
         found = results.in_order()
         next(found)

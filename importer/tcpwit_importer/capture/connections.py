@@ -31,6 +31,10 @@ class Connection:
         """The other end."""
         return self.server if end == self.client else self.client
 
+    def ends_of(self, packet):
+        """The source and the target of a packet, as this connection has them."""
+        return (self.client, self.server) if packet.source == self.client else (self.server, self.client)
+
     def add(self, capture, packet):
         """Adds the next packet of a capture."""
         self.seen.setdefault(capture, []).append(packet)
@@ -185,7 +189,7 @@ class Table:
 
     def __init__(self, kind):
         self.kind, self.found = kind, {}
-        # The name of the capture that is read, and the latest connection of each pair of ends in it.
+        # The name of the capture that is read, and the latest connection between two ends in it, for both directions.
         self.name, self.current = "", {}
 
     def begin(self, name):
@@ -194,12 +198,12 @@ class Table:
 
     def add(self, packet):
         """Adds the next packet to its connection, which is returned."""
-        pair = min(packet.source, packet.target), max(packet.source, packet.target)
+        pair = packet.source, packet.target
         connection = self.current.get(pair)
         if not continues(connection, packet):
-            key = (packet.source, packet.target, packet.number) if packet.is_syn else (pair, self.name)
+            key = (*pair, packet.number) if packet.is_syn else (frozenset(pair), self.name)
             connection = self.found.setdefault(key, begun_by(packet, self.kind))
-            self.current[pair] = connection
+            self.current[pair] = self.current[pair[::-1]] = connection
         connection.add(self.name, packet)
         return connection
 

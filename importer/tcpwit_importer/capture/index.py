@@ -46,9 +46,8 @@ class Indexed(Connection):
         offsets, counts = self.places[capture]
         offsets.append(packet.offset)
         counts.append(packet.count)
-        is_client = packet.source == self.client
-        source = self.client if is_client else self.server
-        self.signs.add(packet, is_client)
+        source, target = self.ends_of(packet)
+        self.signs.add(packet, source is self.client)
         self.senders = with_end(self.senders, source)
         self.others += not packet.flags & (SYN | RST)
         if packet.flags & RST:
@@ -56,7 +55,7 @@ class Indexed(Connection):
         elif packet.flags & FIN and self.ends is not None:
             self.ends = with_end(self.ends, source)
         if packet.outgoing is not None:
-            self.own.setdefault(capture, set()).add(source if packet.outgoing else self.other(source))
+            self.own.setdefault(capture, set()).add(source if packet.outgoing else target)
         if packet.flags & SYN:
             self.initial.setdefault(source, packet.number)
             syns = self.syns.setdefault(capture, {})
@@ -127,7 +126,8 @@ class Direction:
     def __init__(self, connection, capture, is_client):
         self.connection = connection
         self.sender = connection.signs.client if is_client else connection.signs.server
-        self.add_offset, self.add_count = (numbers.append for numbers in connection.places[capture])
+        offsets, counts = connection.places[capture]
+        self.add_offset, self.add_count = offsets.append, counts.append
 
 
 class Index:
@@ -144,9 +144,10 @@ class Index:
         self.capture.last = max(self.capture.last, packet.moment)
         key = bytes_of(packet.source, packet.target)
         if packet.flags & (SYN | FIN | RST) or connection.signs.is_answered:
-            for directions in self.known.values():
+            back = bytes_of(packet.target, packet.source)
+            for directions in filter(None, self.known.values()):
                 directions.pop(key, None)
-                directions.pop(bytes_of(packet.target, packet.source), None)
+                directions.pop(back, None)
         elif key not in self.known[packet.outgoing]:
             direction = Direction(connection, self.capture.name, packet.source == connection.client)
             self.known[packet.outgoing][key] = direction

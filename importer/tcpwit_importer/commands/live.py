@@ -48,11 +48,12 @@ class Live(Connection):
         self.signs, self.place = Signs(), None
 
     def add(self, capture, packet):
-        """Adds the next packet. What follows a part that was judged is only counted."""
+        """Adds the next packet. What follows a part that was judged is only counted. All packets share the ends."""
+        packet.source, packet.target = self.ends_of(packet)
         self.count += 1
         self.last = max(self.last, packet.moment)
         self.note_end(packet)
-        self.signs.add(packet, packet.source == self.client)
+        self.signs.add(packet, packet.source is self.client)
         if not self.is_part:
             super().add(capture, packet)
             self.bytes += len(packet.segment) + PACKET

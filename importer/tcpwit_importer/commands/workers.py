@@ -16,8 +16,11 @@ from ..remedies import LESS_AT_ONCE
 
 # The option of prctl(2) for the signal that a process gets when its parent ends.
 PARENT_DEATH = 1
-# How many connections of a process may have results that wait for an earlier one.
-AHEAD = 500
+# A process judges a group of connections before it's given the next: at most so many with so many packets. Of a
+# process, so many groups may have results that wait for earlier ones.
+TOGETHER, PACKETS, AHEAD = 32, 1000, 50
+# Into how many groups connections are divided at least, for each process.
+LEAST = 8
 # What a worker process inherits: the judge and the connections.
 shared = []
 
@@ -46,29 +49,36 @@ class Results:
         # What is there already isn't garbage, so no process needs to look at it.
         gc.freeze()
         pool = ProcessPoolExecutor(self.jobs, multiprocessing.get_context("fork"), initializer=begin)
-        places, waiting = iter(range(len(self.connections))), deque()
+        groups, waiting = self.groups(), deque()
         try:
-            for place in islice(places, AHEAD * self.jobs):
-                waiting.append(self.submitted(pool, place))
+            waiting.extend(self.submitted(pool, group) for group in islice(groups, AHEAD * self.jobs))
             while waiting:
-                yield waiting.popleft().result()
-                for place in islice(places, 1):
-                    waiting.append(self.submitted(pool, place))
+                yield from waiting.popleft().result()
+                waiting.extend(self.submitted(pool, group) for group in islice(groups, 1))
         except BrokenProcessPool as error:
             raise Problem("a process that judges connections was ended", LESS_AT_ONCE) from error
         finally:
             pool.shutdown(cancel_futures=True)
             gc.unfreeze()
 
-    def submitted(self, pool, place):
-        """The future result of the connection at a place."""
-        future = pool.submit(result_of, place)
-        future.add_done_callback(self.count)
-        return future
+    def groups(self):
+        """The places of connections that are judged together."""
+        most = max(1, min(TOGETHER, len(self.connections) // (LEAST * self.jobs)))
+        first = packets = 0
+        for place, connection in enumerate(self.connections):
+            if place - first == most or packets >= PACKETS:
+                yield range(first, place)
+                first, packets = place, 0
+            packets += connection.count
+        yield range(first, len(self.connections))
 
-    def count(self, _):
-        """Another connection was judged."""
-        self.done += 1
+    def submitted(self, pool, group):
+        """The future results of a group."""
+        def count(_):
+            self.done += len(group)
+        future = pool.submit(ending, results_of, group)
+        future.add_done_callback(count)
+        return future
 
 
 def begin():
@@ -79,10 +89,10 @@ def begin():
         prctl(PARENT_DEATH, signal.SIGKILL)
 
 
-def result_of(place):
-    """The result of the connection at this place, in a worker process."""
+def results_of(places):
+    """The results of the connections at these places, in a worker process."""
     judges, connections = shared
-    return ending(judges.result, place + 1, connections[place])
+    return [judges.result(place + 1, connections[place]) for place in places]
 
 
 def ending(judge, *words):

@@ -39,7 +39,7 @@ class Trace:
         script = script_of(connection, captures, streams, last, notes)
         if gives_up:
             add_ends(connection, captures, script)
-        self.may_differ, self.captures, self.clock = bool(script.expiries), captures, clock
+        self.may_differ, self.captures, self.clock = script.has_expiries, captures, clock
         self.connection = connection
         hosts = 1 if list(captures) == [0] else 2
         self.head = headers.header(hosts, (clock.skew + 999) // 1000, {"extra": ROOM} | chosen)
@@ -109,7 +109,8 @@ def add_ends(connection, captures, script):
     for end, host in connection.hosts.items():
         name = captures.get(host, captures.get(None))
         if name is not None and (packet := last_attempt(connection.seen[name], end)):
-            script.expiries["O", host, id(packet), AFTER] = f"T {host} {end[1]} {connection.other(end)[1]} giveup"
+            text = f"T {host} {end[1]} {connection.other(end)[1]} giveup"
+            script.expire(("O", host, id(packet), AFTER), text)
 
 
 def put_in_order(connection, captures, notes):

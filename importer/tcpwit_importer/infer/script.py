@@ -29,13 +29,20 @@ class Sending(NamedTuple):
     length: int
 
 
+class Expiry(NamedTuple):
+    """The text of a timer's expiry."""
+    thread: str
+    text: str
+
+
 class Script:
     """The calls of a connection's hosts. A place is a side of a segment's line, which has a letter, a host and a
-    packet; or a host and a moment. `ignored` has the packets, by their identities, that the server seems to have
-    ignored: they have no line as received. `expiries` has the text of an expiry at a place."""
+    packet; or a host and a moment. `lines` has what is at a place, each with its letter: B where a call begins, E where
+    it ends, T for an expiry. `ignored` has the packets, by their identities, that the server seems to have ignored:
+    they have no line as received. `has_expiries` states whether there are expiries."""
 
     def __init__(self):
-        self.ignored, self.expiries = set(), {}
+        self.ignored, self.has_expiries = set(), False
         self.endpoints, self.lines, self.moments = [], {}, []
 
     def moment(self, host, moment):
@@ -59,13 +66,18 @@ class Script:
         """Adds a call at the places where it begins and ends."""
         lines = self.lines
         if begin in lines:
-            lines[begin].append((call, True))
+            lines[begin].append((call, "B"))
         else:
-            lines[begin] = [(call, True)]
+            lines[begin] = [(call, "B")]
         if end in lines:
-            lines[end].append((call, False))
+            lines[end].append((call, "E"))
         else:
-            lines[end] = [(call, False)]
+            lines[end] = [(call, "E")]
+
+    def expire(self, place, text):
+        """Adds an expiry after the calls at a place."""
+        self.lines.setdefault(place, []).append((Expiry("expiries", text), "T"))
+        self.has_expiries = True
 
 
 class InferredCase:
@@ -89,23 +101,26 @@ class InferredWriter(Writer):
         """All lines in order, with numbers and threads: those of segments, between those of calls."""
         for endpoint in self.case.endpoints:
             self.numbers[id(endpoint)] = len(self.numbers) + 1
-        flow, ignored = Flow(self.connection, self.notes, self.both), self.script.ignored
-        moments, moment = sorted(((self.moment(*place), place) for place in self.script.moments), reverse=True), None
+        flow, script = Flow(self.connection, self.notes, self.both), self.script
+        moments, moment = sorted(((self.moment(*place), place) for place in script.moments), reverse=True), None
         for (letter, host, moment), _, packet in self.ordered():
-            if letter == "I" and id(packet) in ignored:
+            if letter == "I" and id(packet) in script.ignored:
                 continue
             while moments and moments[-1][0] <= moment:
                 earlier, place = moments.pop()
                 yield from self.calls_at(place, earlier)
-            yield from self.calls_at((letter, host, id(packet), BEFORE), moment)
-            time = self.time(moment)
+            if (place := (letter, host, id(packet), BEFORE)) in script.lines:
+                yield from self.calls_at(place, moment)
+            found = self.digits(flow, letter, packet)
+            time = self.note([packet] * len(found), letter * len(found), moment)
             head = f"{time} {THREADS[letter, host]} {letter} {host}"
-            for digits in self.digits(flow, letter, packet):
-                self.note(packet, letter, time)
+            for digits in found:
                 yield f"{head} {digits}\n"
-            yield from self.calls_at((letter, host, id(packet), AFTER), moment)
+            if (place := (letter, host, id(packet), AFTER)) in script.lines:
+                yield from self.calls_at(place, moment)
         for text in LAST_CALL if self.start is not None else ():
-            yield f"{self.time(max(moment, self.end))} {self.thread(LAST_CALL)} {text}\n"
+            time = (max(moment, self.end) - self.start) // 1000
+            yield f"{time} {self.thread(LAST_CALL)} {text}\n"
 
     def captured(self, host, name):
         """The segments of one capture."""
@@ -118,29 +133,27 @@ class InferredWriter(Writer):
             latest = moment if moment > latest else latest
             yield ("O" if hosts[packet.source] == host else "I", host, latest), self.connection, packet
 
-    def time(self, moment):
-        """A moment as a time of the trace, whose first line has a second."""
+    def note(self, packets, letters, moment):
+        """Notes what the next lines show, and returns their time. The first line of a trace has the time of a
+        second."""
         if self.start is None:
             self.start = moment - 10**9
-        return (moment - self.start) // 1000
-
-    def note(self, packet, letter, time):
-        """Notes what the next line shows."""
-        self.packets.append(packet)
-        self.letters.append(ord(letter))
-        self.times.append(time)
+        time = (moment - self.start) // 1000
+        self.packets += packets
+        self.letters += letters.encode()
+        self.times.extend([time] * len(packets))
+        return time
 
     def calls_at(self, place, moment):
-        """The lines of the calls at a place, which are then forgotten."""
-        script, lines = self.script, []
-        for call, begins in script.lines.pop(place, ()):
-            time, thread = self.time(moment), self.threads.get(call.thread) or self.thread(call.thread)
-            self.note(None, "B" if begins else "E", time)
-            lines.append(f"{time} {thread} {self.begin_text(call) if begins else self.end_text(call)}\n")
-        if script.expiries and place in script.expiries:
-            time = self.time(moment)
-            self.note(None, "T", time)
-            lines.append(f"{time} {self.thread('expiries')} {script.expiries[place]}\n")
+        """The lines of the calls at a place, which are then forgotten. There may be none."""
+        if not (calls := self.script.lines.pop(place)):
+            return ()
+        time = self.note([None] * len(calls), "".join([letter for _, letter in calls]), moment)
+        lines = []
+        for call, letter in calls:
+            thread = self.threads.get(call.thread) or self.thread(call.thread)
+            text = call.text if letter == "T" else self.begin_text(call) if letter == "B" else self.end_text(call)
+            lines.append(f"{time} {thread} {text}\n")
         return lines
 
     def begin_text(self, action):

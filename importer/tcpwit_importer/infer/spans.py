@@ -22,15 +22,20 @@ class Span:
         self.stop = stop
 
     def join(self, after):
-        """Adds a span that begins before this one's stop, or there. It replaces the bytes that both have; all of these
-        are in the last part of this one."""
+        """Adds a span that begins before this one's stop, or there, and isn't used any more. It replaces the bytes that
+        both have; all of these are in the last part of this one."""
         stop, count = self.stop, bisect_left(self.starts, after.start)
         if stop > after.stop:
             rest = self.segments[-1], self.places[-1] + after.stop - self.starts[-1]
-        del self.starts[count:], self.places[count:], self.segments[count:]
-        self.starts += after.starts
-        self.places += after.places
-        self.segments += after.segments
+        own, others = (self.starts, self.places, self.segments), (after.starts, after.places, after.segments)
+        for mine, more in zip(own, others):
+            del mine[count:]
+            # The shorter one moves: segments may come in reverse order.
+            if count < len(more):
+                more[:0] = mine
+            else:
+                mine += more
+        self.starts, self.places, self.segments = others if count < len(after.starts) else own
         self.stop, self.latest = after.stop, 0
         if stop > after.stop:
             self.extend(stop, *rest)

@@ -22,7 +22,7 @@ def refuse_packets(connection, packets):
     if packets and 0 in (connection.client[1], connection.server[1]):
         raise Problem(f"{named(connection, packets[0])} has port 0, which no connection can have", LEAVE_OUT)
     for packet in packets:
-        if packet.missing > packet.size:
+        if packet.lacks_header:
             raise Problem(f"the capture cut the TCP header of {named(connection, packet)}: {WIDER}", WIDER)
         if (given := options(packet.segment)) and are_damaged(given):
             raise Problem(f"{named(connection, packet)} has a TCP option of a wrong length", LEAVE_OUT)

@@ -156,9 +156,10 @@ class Writer:
     def digits(flow, letter, packet):
         """The digits of the segments that a captured segment had on the wire."""
         pieces = flow.went_out(packet) if letter == "O" else flow.came_in(packet)
-        if (longest := max(map(len, pieces))) > LONGEST_SEGMENT:
-            raise Problem(f"{packet.place}: a segment of {longest} bytes", OFFLOADS_OFF,
-                          f"use --kernel plain for a pair; else {OFFLOADS_OFF}")
+        for piece in pieces:
+            if len(piece) > LONGEST_SEGMENT:
+                raise Problem(f"{packet.place}: a segment of {len(piece)} bytes", OFFLOADS_OFF,
+                              f"use --kernel plain for a pair; else {OFFLOADS_OFF}")
         return [piece.hex() for piece in pieces]
 
     def ordered(self):
