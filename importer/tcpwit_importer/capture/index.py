@@ -29,13 +29,14 @@ class Indexed(Connection):
     moments of its first SYNs, and `own` the ends whose packets the capture marked as sent, or to which it marked
     packets as received. `others` counts packets that are neither SYN nor reset. `senders` has the ends that sent
     something, `ends` those that sent a FIN; it's None after a reset. `signs` shows where the capture was made, if it's
-    the only one, and `place` has what was decided about that."""
+    the only one, and `place` has what was decided about that; it isn't certain if the capture may have been made near
+    that host."""
 
     def __init__(self, client, server, begun):
         super().__init__(client, server, begun)
         self.places, self.syns, self.own = {}, {}, {}
         self.fragmented, self.others, self.ends, self.senders = False, 0, set(), set()
-        self.signs, self.place = Signs(), None
+        self.signs, self.place, self.is_certain = Signs(), None, True
 
     def add(self, capture, packet):
         """Adds the next packet of a capture."""

@@ -175,7 +175,7 @@ class Judge:
                               "record with a smaller MTU")
             self.judge(number, indexed, found, moment)
         except Undecided as reason:
-            found.reason = str(reason)
+            found.reason, found.status = str(reason), 0
         except Problem as problem:
             found.reason, found.status = problem.cause, 2
         except MemoryError:
@@ -212,6 +212,10 @@ class Judge:
             if found.is_between:
                 raise Undecided(f"it began before the capture ({counted(indexed.count, 'segment')})")
             self.judge_begun(number, connection, captures, last, found)
+            if found.verdict == "no" and not indexed.is_certain:
+                found.forget()
+                raise Undecided("it began before the capture, and only TTLs show that this was made at a host, not "
+                                "near it (--host says it)")
         else:
             self.refuse_lost(connection)
             self.judge_silent(number, self.between(connection, captures, last, found), found)

@@ -5,9 +5,11 @@ The first of these that shows something decides:
 - the capture marks the packets that its host sent
 - only one end's checksums are wrong: its network card finishes them after the capture
 - one end's TTL is one with which hosts begin, and the other's is less: no router is before the first one's host; if
-  both are less, the capture was made between them
+  both are less, or if that host doesn't answer the handshake within a millisecond, the capture was made between them
 - one end answers the handshake within a millisecond, and at least three times as fast as it is answered; if neither
   does, or if it's the end that TTLs don't show, the capture was made between them
+
+Without a handshake, the quickest acknowledgment of each end counts instead, but it doesn't show a place between them.
 
 A capture has one place, so each connection votes for or against its addresses, by what it shows.
 """
@@ -28,8 +30,11 @@ AT_ONCE = "it answers at once"
 FORWARDED = "its host forwards packets"
 DISTANT = "the TTLs of both hosts show routers before it"
 CONTRARY = "TTLs and times show different hosts"
+LATE = "the host that TTLs show doesn't answer at once"
 SLOW = "neither host answers much sooner than the other"
 NEITHER = "its packets show neither host, or both"
+# Signs that only a capture at the host itself has; a capture near it may have the others.
+CLOSE = {MARKS, UNFINISHED, AT_ONCE}
 # How much a sign counts.
 CERTAIN, STRONG, MEDIUM, WEAK = 10**6, 1000, 10, 1
 
@@ -75,18 +80,24 @@ def by_distance(connection, signs):
     weight = MEDIUM if client or server else WEAK
     if signs.completed is not None:
         waited, answered = signs.answered - signs.opened, signs.completed - signs.answered
+    else:
+        waited, answered = signs.server.quickest, signs.client.quickest
+    if waited is not None and answered is not None:
         client += (AT_ONCE,) if is_fast(answered, waited) else ()
         server += (AT_ONCE,) if is_fast(waited, answered) else ()
     if client and server:
         return Found(BETWEEN, WEAK, (CONTRARY,))
+    if (client or server) and signs.completed is not None and (answered if client else waited) > SOON:
+        return Found(BETWEEN, weight, (LATE,))
     if client or server:
         return Found(connection.client if client else connection.server, weight, client or server)
     return None if signs.completed is None else Found(BETWEEN, WEAK, (SLOW,))
 
 
 def is_forwarded(signs):
-    """Whether a capture of a router has the packets of both ends before and after it forwards them."""
-    return all(sender.least < sender.greatest for sender in (signs.client, signs.server))
+    """Whether a capture of a router or a bridge has the packets of both ends before and after it forwards them."""
+    return all(sender.least < sender.greatest or None not in (sender.arrived, sender.left) and
+               sender.arrived != sender.left for sender in (signs.client, signs.server))
 
 
 def is_unfinished(sender, other):
@@ -126,6 +137,7 @@ class Places:
             connection.place = place = None if is_loopback(connection) else self.of(connection)
             if place:
                 self.decided[key_of(place)] += 1
+                connection.is_certain = not CLOSE.isdisjoint(self.reasons.get(key_of(place), ()))
         if len(self.votes) > MOST:
             self.votes = +self.votes
 
