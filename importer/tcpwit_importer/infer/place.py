@@ -9,7 +9,7 @@ The first of these that shows something decides:
 - one end answers the handshake within a millisecond, and at least three times as fast as it is answered; if neither
   does, or if it's the end that TTLs don't show, the capture was made between them
 
-Without a handshake, the quickest acknowledgment of each end counts instead, but it doesn't show a place between them.
+Without a handshake, the quickest acknowledgments tell whether it was made at the host that TTLs show.
 
 A capture has one place, so each connection votes for or against its addresses, by what it shows.
 """
@@ -77,21 +77,39 @@ def by_distance(connection, signs):
     if is_far(signs.client) and is_far(signs.server):
         return Found(BETWEEN, MEDIUM, (DISTANT,))
     client, server = by_lifetime(signs.client, signs.server), by_lifetime(signs.server, signs.client)
-    weight = MEDIUM if client or server else WEAK
     if signs.completed is not None:
-        waited, answered = signs.answered - signs.opened, signs.completed - signs.answered
-    else:
-        waited, answered = signs.server.quickest, signs.client.quickest
-    if waited is not None and answered is not None:
-        client += (AT_ONCE,) if is_fast(answered, waited) else ()
-        server += (AT_ONCE,) if is_fast(waited, answered) else ()
+        return by_handshake(connection, signs, client, server)
+    if client:
+        return by_answers(connection.client, client, signs.client, signs.server)
+    return by_answers(connection.server, server, signs.server, signs.client) if server else None
+
+
+def by_handshake(connection, signs, client, server):
+    """What the times of a handshake show. Each end has the reasons by which TTLs show it."""
+    weight = MEDIUM if client or server else WEAK
+    waited, answered = signs.answered - signs.opened, signs.completed - signs.answered
+    client += (AT_ONCE,) if is_fast(answered, waited) else ()
+    server += (AT_ONCE,) if is_fast(waited, answered) else ()
     if client and server:
         return Found(BETWEEN, WEAK, (CONTRARY,))
-    if (client or server) and signs.completed is not None and (answered if client else waited) > SOON:
+    if not client and not server:
+        return Found(BETWEEN, WEAK, (SLOW,))
+    if (answered if client else waited) > SOON:
         return Found(BETWEEN, weight, (LATE,))
-    if client or server:
-        return Found(connection.client if client else connection.server, weight, client or server)
-    return None if signs.completed is None else Found(BETWEEN, WEAK, (SLOW,))
+    return Found(connection.client if client else connection.server, weight, client or server)
+
+
+def by_answers(end, reasons, own, other):
+    """What the quickest acknowledgments of a connection without a handshake show about the end that TTLs show. A host
+    may acknowledge late, and the other one be near. So they don't show an end without TTLs."""
+    if is_soon(own.quickest):
+        return Found(end, MEDIUM, (*reasons, AT_ONCE))
+    return Found(BETWEEN, WEAK, (CONTRARY,)) if is_soon(other.quickest) else Found(end, MEDIUM, reasons)
+
+
+def is_soon(time):
+    """Whether an answer came at once, if one came at all."""
+    return time is not None and time <= SOON
 
 
 def is_forwarded(signs):
