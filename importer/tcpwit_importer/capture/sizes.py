@@ -41,12 +41,15 @@ def size_in(packets, end, wire):
     """The size of an end, from the packets of its capture. Of several SYNs of the peer, the greatest MSS counts."""
     if wire:
         return Size(WIRE, ANY)
-    given = [size_option(packet.segment) or USUAL_SIZE for packet in packets
-             if packet.flags & SYN and packet.source != end]
-    most = max(given, default=0)
-    if all(packet.size <= most for packet in packets if packet.source == end):
+    most = largest = 0
+    for packet in packets:
+        if packet.source == end:
+            largest = max(largest, packet.size)
+        elif packet.flags & SYN:
+            most = max(most, size_option(packet.segment) or USUAL_SIZE)
+    if largest <= most:
         return Size(FITS)
-    if not given:
+    if not most:
         return Size(UNKNOWN)
     size = common_size(packets, end, most)
     return Size(OFFLOAD) if size is None else Size(LENGTHS, size)
