@@ -108,12 +108,11 @@ class Place(WithCaptures):
         near = "its packets have TTL 64"
         for answer, reply, reasons in ((SLOW, SLOW, [near]), (SLOW, None, [near]), (SLOW, MS, [near, AT_ONCE]),
                                        (SLOW, MS + 1000, [near]), (None, FAST, [near, AT_ONCE]),
-                                       (FAST, FAST, [near, AT_ONCE])):
+                                       (FAST, FAST, [near, AT_ONCE]), (FAST, None, [near])):
             self.assertEqual(self.place(self.begun(answer, reply, (64, 53)))[1], [host(1, *reasons)], (answer, reply))
-        for reply in (SLOW, None):
-            found, said = self.place(self.begun(FAST, reply, (64, 53)))
-            self.assertIn("not judged: it began before the capture (", found)
-            self.assertEqual(said, [between("TTLs and times show different hosts")])
+        found, said = self.place(self.begun(FAST, SLOW, (64, 53)))
+        self.assertIn("not judged: it began before the capture (4 segments)", found)
+        self.assertEqual(said, [between("TTLs and times show different hosts")])
         # The other host may answer as soon, if it's near, and the captured one late.
         for answer, reply in ((SLOW, FAST), (FAST, SLOW), (FAST, FAST), (SLOW, SLOW)):
             found, said = self.place(self.begun(answer, reply))

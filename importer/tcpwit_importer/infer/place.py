@@ -104,7 +104,9 @@ def by_answers(end, reasons, own, other):
     may acknowledge late, and the other one be near. So they don't show an end without TTLs."""
     if is_soon(own.quickest):
         return Found(end, MEDIUM, (*reasons, AT_ONCE))
-    return Found(BETWEEN, WEAK, (CONTRARY,)) if is_soon(other.quickest) else Found(end, MEDIUM, reasons)
+    if own.quickest is not None and is_soon(other.quickest):
+        return Found(BETWEEN, WEAK, (CONTRARY,))
+    return Found(end, MEDIUM, reasons)
 
 
 def is_soon(time):
