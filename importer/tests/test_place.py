@@ -110,6 +110,9 @@ class Place(WithCaptures):
                                        (SLOW, MS + 1000, [near]), (None, FAST, [near, AT_ONCE]),
                                        (FAST, FAST, [near, AT_ONCE]), (FAST, None, [near])):
             self.assertEqual(self.place(self.begun(answer, reply, (64, 53)))[1], [host(1, *reasons)], (answer, reply))
+        with mock.patch("tcpwit_importer.capture.signs.TIMED", 3):
+            # The client's acknowledgment is the fourth packet.
+            self.assertEqual(self.place(self.begun(SLOW, FAST, (64, 53)))[1], [host(1, near)])
         found, said = self.place(self.begun(FAST, SLOW, (64, 53)))
         self.assertIn("not judged: it began before the capture (4 segments)", found)
         self.assertEqual(said, [between("TTLs and times show different hosts")])

@@ -4,8 +4,8 @@ Only numbers are kept, since a capture may have many connections.
 """
 from .segments import ACK, RST, SYN, WRAP
 
-# How many checksums of each end are compared.
-CHECKED = 8
+# How many checksums of each end are compared, and in how many packets of a connection answers are timed.
+CHECKED, TIMED = 8, 1000
 TCP = 6
 
 
@@ -49,12 +49,18 @@ class Sender:
 
 class Signs:
     """What a connection's packets show: of its client and of its server, and the moments of the SYN, the SYN-ACK and
-    the ACK that completes the handshake; None if one is missing."""
-    __slots__ = ("client", "server", "opened", "answered", "completed")
+    the ACK that completes the handshake; None if one is missing. Without a SYN, the first packets show how long answers
+    took; `timed` is how many they were."""
+    __slots__ = ("client", "server", "opened", "answered", "completed", "timed")
 
     def __init__(self):
-        self.client, self.server = Sender(), Sender()
+        self.client, self.server, self.timed = Sender(), Sender(), 0
         self.opened = self.answered = self.completed = None
+
+    @property
+    def are_timed(self):
+        """Whether the next packet may show how long an answer took."""
+        return self.opened is None and self.timed < TIMED
 
     def add(self, packet, is_client):
         """The next packet, which the client or the server sent."""
@@ -62,7 +68,8 @@ class Signs:
         sender.add(packet)
         if self.completed is None:
             self.see_handshake(packet, is_client)
-        if self.opened is None:
+        if self.are_timed:
+            self.timed += 1
             sender.see_answer(packet, other)
 
     def see_handshake(self, packet, is_client):
