@@ -119,11 +119,12 @@ def place_of(error):
 
 
 class Notes:
-    """What was left out or changed: each kind with its count and the first place."""
+    """What was left out, changed or kept: each kind with its count and the first place."""
 
     def __init__(self):
         self.left_out = {}
         self.changed = {}
+        self.kept = {}
         self.said = []
 
     def leave_out(self, kind, place):
@@ -134,13 +135,17 @@ class Notes:
         """Counts something that the trace has in another form."""
         self._count(self.changed, kind, place)
 
+    def keep(self, kind, place):
+        """Counts something that the trace has as it was captured."""
+        self._count(self.kept, kind, place)
+
     def say(self, text):
         """A line of its own."""
         self.said.append(text)
 
     def add(self, other):
         """Adds the counts of other notes. The first place of each kind is the one that was noted first."""
-        for kinds, more in ((self.left_out, other.left_out), (self.changed, other.changed)):
+        for kinds, more in ((self.left_out, other.left_out), (self.changed, other.changed), (self.kept, other.kept)):
             for kind, (count, place) in more.items():
                 before, first = kinds.get(kind, (0, place))
                 kinds[kind] = (before + count, first)
@@ -153,6 +158,6 @@ class Notes:
     def lines(self):
         """The lines to print on standard error."""
         yield from self.said
-        for title, kinds in (("changed", self.changed), ("left out", self.left_out)):
+        for title, kinds in (("changed", self.changed), ("kept", self.kept), ("left out", self.left_out)):
             for kind, (count, first) in kinds.items():
                 yield f"{title}: {count} {kind} (first: {first})"

@@ -61,6 +61,28 @@ class Output(WithCaptures):
             self.assertIn("1 connection: 1 yes", out)
             self.assertIn("hosts 2\n", self.text("given"))
 
+    def test_duplicate_acknowledgments_in_flight(self):
+        for options in (lambda _: b"", lambda number: bytes((8, 10, *bytes(3), number, *bytes(4), 1, 1))):
+            talk = Talk()
+            first = talk.next[0]
+            talk.send(0, payload=b"a", lost=True)
+            for number in range(6):
+                talk.send(0, payload=b"b")
+                following, talk.next[0] = talk.next[0], first
+                talk.send(1, options=options(number))
+                talk.next[0] = following
+            # The server's capture begins when the third one was just sent.
+            talk.frames[1] = talk.frames[1][9:]
+            _, out, error = run(*self.files(talk), *self.lab())
+            self.assertIn("(judged from packet 10 of", out)
+            self.assertEqual(error, "")
+            sent = Counter()
+            for line in self.text("given").splitlines()[10:]:
+                _, _, letter, *words = line.split()
+                if (letter, words[0]) in (("O", "1"), ("I", "0")):
+                    sent[words[1]] += 1 if letter == "O" else -1
+                    self.assertGreaterEqual(sent[words[1]], 0, line)
+
     def test_json_and_a_report(self):
         _, out, _ = self.judged("--json", "--report", f"{self.folder}/kept")
         found = json.loads(out)

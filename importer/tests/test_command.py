@@ -108,6 +108,13 @@ class Command(WithFiles):
         self.assertEqual([line.split(" ", 2)[2][:14] for line in lines[10:]][:6],
                          ["B listen 1 80 ", "E ok 2", "B accept 2", "B open 0 4000 ", "E ok 1", "B await 1"])
         self.assertEqual(sum(line.split()[2] in "OI" for line in lines[10:]), 16)
+
+    def test_segments_above_the_mss(self):
+        self.captures = talk(options=b"\2\4\0\4").write(self.folder)
+        for words, count in (([], 18), (["--wire"], 16)):
+            status, out, error = run(*self.captures, *self.logs, *words)
+            self.assertEqual((status, "segments that an offload enlarged" in error), (0, not words), error)
+            self.assertEqual(sum(line.split()[2] in "OI" for line in out.splitlines()[10:]), count)
         self.assertIn("header: trace 5", error)
 
     def test_header_lines_are_chosen(self):

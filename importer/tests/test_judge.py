@@ -259,6 +259,7 @@ class Lines(WithCaptures):
             "client": "10.9.0.1:4000", "server": "10.9.0.2:80", "begun": 100.0, "segments": 14, "judged": True,
             "hosts": 2, "level": "none", "answer": "no", "status": 1, "witness_line": 7, "trace_line": 8,
             "rule": "ack-late", "sentence": said.format("none"), "levels": levels,
+            "size": {"client": "fits", "server": "fits"},
             "said": [NO["said"][0], f"Under none: {said.format('none')}"]})
         _, out, _ = run(*self.files(), *self.lab(), "--json")
         self.assertEqual((json.loads(out)["lines"], json.loads(out)["steps"]), (57, 88))

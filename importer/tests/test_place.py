@@ -12,7 +12,7 @@ from tcpwit_importer.capture.segments import ACK
 from tcpwit_importer.infer.place import Places
 from tcpwit_importer.problem import Notes
 
-from .test_judge import WithCaptures, run
+from .test_judge import NO, WithCaptures, run
 from .test_recordings import DATA
 from .wire import Talk, pcap, segment
 
@@ -89,6 +89,52 @@ class Place(WithCaptures):
             self.assertEqual(said, [between(SLOW_BOTH) if place == "between" else
                                     host(1 + (place == "server"), AT_ONCE)])
 
+    def begun(self, answer, reply, lifetimes=(64, 64)):
+        """The frames of a capture that began late: the server acknowledges the client's bytes after so many
+        nanoseconds, and the client those of the server; None if one doesn't."""
+        talk = Talk()
+        talk.frames[0] = []
+        for host, time in ((0, answer), (1, reply)):
+            if time is not None:
+                talk.send(host, payload=b"abc")
+                talk.at += time - 2 * MS
+                talk.send(1 - host)
+                talk.at += SLOW
+        # Host 0's capture has what host 1 sends a millisecond later.
+        frames = [(moment - MS * (frame[26:30] == SERVER), frame) for moment, frame in talk.frames[0]]
+        return [(moment, with_lifetime(frame, lifetimes[int(frame[26:30] == SERVER)])) for moment, frame in frames]
+
+    def test_times_of_a_connection_that_began_before(self):
+        near = "its packets have TTL 64"
+        for answer, reply, reasons in ((SLOW, SLOW, [near]), (SLOW, None, [near]), (SLOW, MS, [near, AT_ONCE]),
+                                       (SLOW, MS + 1000, [near]), (None, FAST, [near, AT_ONCE]),
+                                       (FAST, FAST, [near, AT_ONCE]), (FAST, None, [near])):
+            self.assertEqual(self.place(self.begun(answer, reply, (64, 53)))[1], [host(1, *reasons)], (answer, reply))
+        with mock.patch("tcpwit_importer.capture.signs.TIMED", 3):
+            # The client's acknowledgment is the fourth packet.
+            self.assertEqual(self.place(self.begun(SLOW, FAST, (64, 53)))[1], [host(1, near)])
+        found, said = self.place(self.begun(FAST, SLOW, (64, 53)))
+        self.assertIn("not judged: it began before the capture (4 segments)", found)
+        self.assertEqual(said, [between("TTLs and times show different hosts")])
+        # The other host may answer as soon, if it's near, and the captured one late.
+        for answer, reply in ((SLOW, FAST), (FAST, SLOW), (FAST, FAST), (SLOW, SLOW)):
+            found, said = self.place(self.begun(answer, reply))
+            self.assertIn("not judged: nothing shows which of its hosts", found)
+            self.assertEqual(said, [])
+
+    def test_only_lifetimes_show_no_fault_of_a_connection_that_began_before(self):
+        for reply, expected in ((SLOW, "not judged: it began before the capture, and only TTLs show that this was made "
+                                 "at a host, not near it (--host says it)"), (FAST, "none      no ack-late")):
+            pcap(f"{self.folder}/c.pcap", self.begun(SLOW, reply, (64, 53)))
+            status, out, _ = run(f"{self.folder}/c.pcap", *self.lab(NO, 1))
+            self.assertIn(f":80   {expected}", out)
+            _, out, _ = run(f"{self.folder}/c.pcap", *self.lab(NO, 1), "--host", "client")
+            self.assertIn(":80   none      no ack-late", out)
+            # Another connection shows that the host answers at once.
+            pcap(f"{self.folder}/c.pcap", [*self.begun(SLOW, reply, (64, 53)), *self.talk_with(SLOW, FAST, port=4001)])
+            self.assertIn("4000 -> 10.9.0.2:80   none      no ack-late",
+                          run(f"{self.folder}/c.pcap", *self.lab(NO, 1))[1])
+
     def test_a_capture_between_the_hosts_has_no_duties(self):
         self.assertEqual(self.place(self.talk_with())[0], "between")
         self.assertIn("--slack any", self.text("words"))
@@ -115,14 +161,23 @@ class Place(WithCaptures):
         for lifetimes, place in (((64, 53), "client"), ((128, 53), "client"), ((255, 60), "client"),
                                  ((53, 64), "server"), ((64, 128), "between"), ((63, 53), "between"),
                                  ((64, 64), "between")):
-            self.assertEqual(self.place(self.talk_with(lifetimes=lifetimes))[0], place, lifetimes)
-        self.assertEqual(self.place(self.talk_with(lifetimes=(64, 53)))[1], [host(1, "its packets have TTL 64")])
+            self.assertEqual(self.place(self.talk_with(FAST, FAST, lifetimes))[0], place, lifetimes)
+        self.assertEqual(self.place(self.talk_with(FAST, FAST, (64, 53)))[1], [host(1, "its packets have TTL 64")])
         self.assertEqual(self.place(self.talk_with(SLOW, FAST, (63, 53))),
                          ("between", [between("the TTLs of both hosts show routers before it")]))
 
     def test_lifetimes_and_times_that_differ(self):
         self.assertEqual(self.place(self.talk_with(FAST, SLOW, (64, 53))),
                          ("between", [between("TTLs and times show different hosts")]))
+
+    def test_a_capture_near_the_host_that_lifetimes_show(self):
+        late = ("between", [between("the host that TTLs show doesn't answer at once")])
+        for answer, reply, lifetimes, place in ((2 * MS, MS, (64, 53), 1), (2 * MS, MS + 1000, (64, 53), None),
+                                                (MS, 2 * MS, (53, 64), 2), (MS + 1000, 2 * MS, (53, 64), None),
+                                                (SLOW, 9 * MS, (64, 53), None)):
+            found = self.place(self.talk_with(answer, reply, lifetimes))
+            self.assertEqual(found, late if place is None else (
+                ("client", "server")[place - 1], [host(place, "its packets have TTL 64")]), (answer, reply))
 
     def test_checksums(self):
         for finished, place in (((False, True), "client"), ((True, False), "server"), ((False, False), "between")):
@@ -146,7 +201,7 @@ class Place(WithCaptures):
         self.assertEqual(self.place(self.talk_with(), *clear)[1], [host(1, AT_ONCE)])
         self.assertEqual(self.place(self.talk_with(), self.talk_with(port=4003), *clear)[1], [between(SLOW_BOTH, 4)])
         # TTLs outweigh times.
-        sure = self.talk_with(lifetimes=(64, 53), port=4001)
+        sure = self.talk_with(FAST, FAST, (64, 53), port=4001)
         self.assertEqual(self.place(sure, *(self.talk_with(port=port) for port in range(4002, 4009)))[1],
                          [host(1, "its packets have TTL 64")])
 
@@ -202,6 +257,21 @@ class Place(WithCaptures):
         # A bridge doesn't lower it; nor does a host whose connection is with itself.
         self.assertIn("forwards its segments, or is both its hosts (--host both)",
                       place(lambda frame: frame[47] == 2)[0])
+
+    def test_a_bridge(self):
+        for interfaces, counts in (((3, 4), True), ((3, 3), False)):
+            # Each packet is received at one interface, and sent at the other one of the end.
+            found = [(moment + 1000 * sent, struct.pack("!HxxIHBBQ", 0x800, interfaces[
+                sent ^ (frame[26:30] == SERVER)], 1, 4 * sent, 6, 0) + frame[14:])
+                     for moment, frame in self.talk_with(FAST, SLOW) for sent in (False, True)]
+            pcap(f"{self.folder}/any.pcap", found, 276)
+            _, out, error = run(f"{self.folder}/any.pcap", *self.lab())
+            said = "any.pcap counts as made between the hosts (1 connection): its host forwards packets"
+            self.assertEqual(said in error, counts, error)
+            self.assertEqual("forwards its segments, or is both its hosts (--host both)" in out, not counts, out)
+            if counts:
+                # Each packet counts once.
+                self.assertEqual(self.text("given").count(" O "), 3)
 
 
 class Recordings(unittest.TestCase):

@@ -6,6 +6,7 @@ Segments of one direction bound the difference from above, those of the other di
 from typing import NamedTuple
 
 from ..problem import Problem
+from .segments import identity
 
 
 class Clock(NamedTuple):
@@ -32,17 +33,22 @@ def bounds_of(connections, hosts):
     """Bounds of the difference: pairs (moment at host 1, maximum) and (moment at host 1, minimum)."""
     above, below = [], []
     for connection in connections:
-        sent, came = {0: {}, 1: {}}, {0: [], 1: []}
+        sent, came = {0: {}, 1: {}}, {0: {}, 1: {}}
         for host, name in hosts.items():
             for packet in connection.seen.get(name, []):
-                key = packet.segment[:16]
-                if connection.hosts.get(packet.source) == host:
-                    sent[host].setdefault(key, packet.moment)
-                else:
-                    came[host].append((key, packet.moment))
-        above += [(moment, moment - sent[0][key]) for key, moment in came[1] if key in sent[0]]
-        below += [(sent[1][key], sent[1][key] - moment) for key, moment in came[0] if key in sent[1]]
+                found = sent if connection.hosts.get(packet.source) == host else came
+                found[host].setdefault(identity(packet.segment), []).append(packet.moment)
+        above += [(moment, moment - first) for first, moment in both(sent[0], came[1])]
+        below += [(first, first - moment) for first, moment in both(sent[1], came[0])]
     return above, below
+
+
+def both(sent, came):
+    """When a segment was first sent, and each moment when it was received. Of equal segments, such as duplicate
+    acknowledgments, a capture that begins late may lack the first ones; then nothing shows which belong together."""
+    for key, moments in came.items():
+        if len(moments) == len(sent.get(key, ())):
+            yield from ((sent[key][0], moment) for moment in moments)
 
 
 def clock_of(above, below):

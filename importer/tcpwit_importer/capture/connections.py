@@ -14,11 +14,12 @@ class Connection:
     """Both directions between one pair of addresses and ports, from a SYN on. An end is an address and a port.
 
     `seen` has the packets of each capture. `initial` has each end's initial sequence number once its SYN was seen.
+    `on_wire` has what is known about the sizes of an end's segments.
     """
 
     def __init__(self, client, server, begun):
         self.client, self.server, self.begun = client, server, begun
-        self.seen, self.initial, self.sizes = {}, {}, {}
+        self.seen, self.initial, self.sizes, self.on_wire = {}, {}, {}, {}
         self.whole = True
         self.claimed = ()
         self.hosts = {}
@@ -40,7 +41,7 @@ class Connection:
         self.seen.setdefault(capture, []).append(packet)
         if packet.flags & SYN:
             self.initial.setdefault(packet.source, packet.number)
-            self.sizes.setdefault(packet.source, _size_option(packet.segment))
+            self.sizes.setdefault(packet.source, size_option(packet.segment))
 
     def packets(self):
         """All packets of all captures."""
@@ -178,7 +179,7 @@ def _without_gap(spans):
     return reached
 
 
-def _size_option(segment):
+def size_option(segment):
     """The maximum segment size in a SYN's options; None if it has none."""
     found = values(SIZE, 2, options(segment))
     return int.from_bytes(found[0], "big") if found else None

@@ -31,13 +31,14 @@ class Indexed(Connection):
     moments of its first SYNs, and `own` the ends whose packets the capture marked as sent, or to which it marked
     packets as received. `others` counts packets that are neither SYN nor reset. `senders` has the ends that sent
     something, `ends` those that sent a FIN; it's None after a reset. `signs` shows where the capture was made, if it's
-    the only one, and `place` has what was decided about that."""
+    the only one, and `place` has what was decided about that; it isn't certain if the capture may have been made near
+    that host."""
 
     def __init__(self, client, server, begun):
         super().__init__(client, server, begun)
         self.places, self.syns, self.own = {}, {}, {}
         self.fragmented, self.others, self.ends, self.senders = False, 0, (), ()
-        self.signs, self.place = Signs(), None
+        self.signs, self.place, self.is_certain = Signs(), None, True
 
     def add(self, capture, packet):
         """Adds the next packet of a capture."""
@@ -139,11 +140,13 @@ class Index:
         self.known = {None: {}, False: {}, True: {}}
 
     def add(self, packet):
-        """Adds a packet. Others like it may be plain, except until a handshake's end, or at the connection's."""
+        """Adds a packet. Others like it may be plain, except until a handshake's end, while answers are timed, or at the
+        connection's end."""
         connection = self.table.add(packet)
         self.capture.last = max(self.capture.last, packet.moment)
         key = bytes_of(packet.source, packet.target)
-        if packet.flags & (SYN | FIN | RST) or connection.signs.is_answered:
+        signs = connection.signs
+        if packet.flags & (SYN | FIN | RST) or signs.is_answered or signs.are_timed:
             back = bytes_of(packet.target, packet.source)
             for directions in filter(None, self.known.values()):
                 directions.pop(key, None)

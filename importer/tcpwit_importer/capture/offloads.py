@@ -1,12 +1,13 @@
 """Large segments: cuts segments that offloads joined into those on the wire.
 
 With segmentation offload, a capture shows one segment of up to 64 kB for several on the wire; receive offload joins
-received segments. A sent segment is cut into pieces of the size that both hosts agreed on. A received segment equals a
-sent one, or joins several consecutive pieces.
+received segments. A sent segment is cut into pieces of the size that both hosts agreed on, unless `sizes.py` knows a
+larger one. A received segment equals a sent one, or joins several consecutive pieces.
 """
 from typing import Any, NamedTuple
 
 from .segments import CWR, FIN, PSH, WRAP, flags, header_length, number, payload
+from .sizes import LENGTHS, UNKNOWN, Size
 
 MOVED = FIN | PSH | CWR
 
@@ -110,9 +111,13 @@ class Flow:
 
     def went_out(self, packet):
         """The segments of an outgoing packet."""
-        pieces = cut(packet.segment, self.connection.piece_size(packet.segment))
+        agreed = self.connection.piece_size(packet.segment)
+        shown = self.connection.on_wire.get(packet.source, Size(UNKNOWN))
+        pieces = cut(packet.segment, shown.largest or agreed)
         if len(pieces) > 1:
             self.notes.change("segments that an offload enlarged, cut into those on the wire", packet.place)
+        if shown.why == LENGTHS and packet.size > agreed:
+            self.notes.keep("large segments as they are, since no offload explains their lengths", packet.place)
         for piece in pieces if self.both else ():
             self.sent[packet.source].add(packet.moment, piece)
         return pieces

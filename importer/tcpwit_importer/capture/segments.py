@@ -63,6 +63,12 @@ def size(segment):
     return len(segment) - header_length(segment)
 
 
+def identity(segment):
+    """The bytes that show that segments of two captures are the same one. Duplicate acknowledgments differ only in
+    their options. An offload keeps only a segment's beginning, and a router may change the options of a SYN."""
+    return segment[:16] if flags(segment) & SYN else segment[:16] + options(segment)
+
+
 def values(kind, length, given):
     """The values of this kind and length among these options, in their order."""
     return [value for found, value in listed(given) if found == kind and len(value) == length]

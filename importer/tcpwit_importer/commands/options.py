@@ -27,6 +27,14 @@ def add_first_level(words, option):
                        help=f"the level that is tried first, not laxer than {option} (default: that of {option})")
 
 
+def add_wire(words):
+    """The option that says that no offload enlarged segments."""
+    words.add_argument("--wire", action="store_true",
+                       help="the capture has segments as they were on the wire: offloads were off, or it was made at a "
+                       "mirror port. So one above the peer's MSS isn't split, but gets a no (default: only if no "
+                       "offload explains the lengths)")
+
+
 def refuse_laxer(start, least, option):
     """Refuses a first level that is laxer than the weakest one whose yes counts, which this option names."""
     if start and headers.LEVELS.index(start) > headers.LEVELS.index(least):

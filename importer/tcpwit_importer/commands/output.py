@@ -84,7 +84,7 @@ def facts(result):
     else:
         found |= {name: answer[name] for name in ("witness_line", "trace_line", "rule")}
         found |= refused(result.refusals[-1])
-    found |= {"place": result.place} if result.place else {}
+    found |= ({"place": result.place} if result.place else {}) | {"size": result.sizes}
     levels = [level | refused(refusal) for level, refusal in zip(result.levels, result.refusals)]
     found |= {"ways": result.ways} if result.ways else {}
     found |= {"levels": levels, "said": result.said if result.files else result.said_in_packets}

@@ -10,6 +10,7 @@ from ..capture.clocks import SAME, bounds_of, clock_of, refuse_distant, said
 from ..capture.connections import connections_of, refuse_gaps
 from ..capture.copies import without_copies
 from ..capture.packets import read_capture, shown
+from ..capture.sizes import sizes_of
 from ..files import print_lines, remove, write_file
 from ..problem import Notes, Parser, Problem, named_file, say, status_of
 from ..progress import Part
@@ -18,7 +19,7 @@ from ..trace import header as headers
 from ..trace.cases import cases_by_listener
 from ..trace.lines import Writer
 from . import lab
-from .options import add_version_and_slack, add_words_of_judging, moment, number_within, refuse_laxer
+from .options import add_version_and_slack, add_wire, add_words_of_judging, moment, number_within, refuse_laxer
 from .selection import addresses_of, chosen_connections
 
 DESCRIPTION = """Converts captures and system call logs of unmodified programs into traces for tcpwit.
@@ -53,6 +54,7 @@ def parser():
     add_words_of_judging(words)
     words.add_argument("--keep-gaps", action="store_true",
                        help="accept captures that lost packets and logs that lack sends")
+    add_wire(words)
     words.add_argument("--skip-begun", action="store_true", help="leave out connections that began before the capture")
     words.add_argument("--end", type=moment, metavar="SECONDS",
                        help="when the recording ended, in seconds since 1970 by host 0's clock (default: the last "
@@ -166,6 +168,8 @@ def make_traces(options, notes, names, connections, endpoints, hosts, last):
     for case in cases:
         say_established(case, notes, f"{case.name}: " if len(cases) > 1 else "")
     captures = names if hosts == 2 or None in names else {0: names[0]}
+    for connection in connections:
+        connection.on_wire = sizes_of(connection, captures, options.wire)
     end = options.end or max(clock.at(moment) if host == 1 else moment for host, moment in last.items())
     return {case.name: chain(head, Writer(case, captures, clock, end, notes).lines()) for case in cases}
 

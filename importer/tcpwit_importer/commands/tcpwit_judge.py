@@ -18,7 +18,7 @@ from ..trace import header as headers
 from . import lab
 from .annotated import annotate
 from .live import Pool, Reader, Stream, standard_input, watch
-from .options import add_first_level, number_within, refuse_laxer, slack
+from .options import add_first_level, add_wire, number_within, refuse_laxer, slack
 from .output import Output
 from .verdicts import Judge
 from .workers import Results, terminating
@@ -61,6 +61,7 @@ def parser():
                        metavar="N",
                        help="for a capture between the hosts: how many microseconds a segment needs at most from its "
                        "host to the capture; one that passes later isn't taken for reordered (default: 1000000)")
+    add_wire(words)
     words.add_argument("--level", choices=headers.LEVELS, default=headers.FULL,
                        help="the weakest level whose yes gives status 0 (default: full)")
     add_first_level(words, "--level")

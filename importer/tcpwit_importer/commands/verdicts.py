@@ -9,11 +9,12 @@ from typing import Any
 
 from ..capture.connections import refuse_gaps
 from ..capture.packets import shown
+from ..capture.sizes import UNKNOWN, Size, sizes_of
 from ..figures.figures import figures_of
 from ..files import remove, without_collection, write_file
 from ..infer.begun import beginnings
 from ..infer.conversion import Trace
-from ..infer.hosts import Undecided
+from ..infer.hosts import CLIENT, SERVER, Undecided
 from ..infer.midpoint import split
 from ..infer.opening import is_made_up
 from ..infer.place import BETWEEN
@@ -75,6 +76,8 @@ class Result:
     captures: int = 1
     # Where the only capture was made: client, server, both or between.
     place: str = ""
+    # Whether the sizes of the client's and of the server's segments were judged, and why, in a word for each.
+    sizes: dict = field(default_factory=dict)
     # If it began before the capture: the first packet judged in each capture, and which lines were made up.
     since: list = field(default_factory=list)
     made_up: range = range(0)
@@ -183,7 +186,7 @@ class Judge:
                               "record with a smaller MTU")
             self.judge(number, indexed, connection, found, moment)
         except Undecided as reason:
-            found.reason = str(reason)
+            found.reason, found.status = str(reason), 0
         except Problem as problem:
             found.reason, found.status = problem.cause, 2
         except MemoryError:
@@ -220,10 +223,19 @@ class Judge:
         self.roles.refuse_unknown(indexed)
         unknown, found.place = extension(connection), self.roles.place(indexed)
         found.hosts = 1 if list(captures) == [0] else 2
+        connection.on_wire = sizes_of(connection, captures, self.options.wire)
+        if not indexed.whole:
+            connection.on_wire = dict.fromkeys(connection.on_wire, Size(UNKNOWN))
+        found.sizes = {CLIENT if end == connection.client else SERVER: size.why
+                       for end, size in connection.on_wire.items()}
         if not indexed.whole:
             if found.is_between:
                 raise Undecided(f"it began before the capture ({counted(indexed.count, 'segment')})")
             self.judge_begun(number, connection, captures, last, found)
+            if found.verdict == "no" and not indexed.is_certain:
+                found.forget()
+                raise Undecided("it began before the capture, and only TTLs show that this was made at a host, not "
+                                "near it (--host says it)")
         else:
             self.refuse_lost(connection)
             self.judge_silent(number, self.between(connection, captures, last, found), found)

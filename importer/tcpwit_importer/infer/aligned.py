@@ -1,8 +1,9 @@
 """Two captures of a connection without its beginning: finds where to begin in each, so that they fit."""
 from bisect import bisect_right
+from collections import Counter
 
 from ..capture.clocks import bounds_of
-from ..capture.segments import RST
+from ..capture.segments import RST, identity
 from .before import references, unwrapped
 from .hosts import Undecided
 
@@ -45,7 +46,7 @@ class Side:
     """One of the captures. `start` is the place of its first packet that counts."""
 
     def __init__(self, connection, host, name, clock, start):
-        self.packets, self.start = connection.seen[name], 0
+        self.packets, self.start, self.skew = connection.seen[name], 0, clock.skew
         self.own = next(end for end, owner in connection.hosts.items() if owner == host)
         self.moments = [clock.at(packet.moment) if host == 1 else packet.moment for packet in self.packets]
         seen = {id(each.packet): each for each in unwrapped(self.packets, connection, start)}
@@ -57,13 +58,14 @@ class Side:
         return self.moments[self.start] if self.start < len(self.moments) else float("inf")
 
     def keys(self, source):
-        """The packets of an end: the beginnings of their segments, and the parts of its bytes that they have."""
-        exact, parts = set(), []
-        for packet, each in zip(self.packets[self.start:], self.seen[self.start:]):
+        """The packets of an end: how many there are of each, and the parts of its bytes that they have, and when."""
+        exact, parts = Counter(), []
+        for place in range(self.start, len(self.packets)):
+            packet, each = self.packets[place], self.seen[place]
             if packet.source == source:
-                exact.add(packet.segment[:16])
+                exact[identity(packet.segment)] += 1
                 if each and packet.size:
-                    parts.append((each.first, each.stop))
+                    parts.append((each.first, each.stop, self.moments[place]))
         return exact, sorted(parts)
 
     def skip(self, other):
@@ -80,19 +82,30 @@ class Side:
             self.start = last + 1
         return last is not None
 
-    def has(self, place, exact, parts):
-        """Whether the packet at a place is among others, or its bytes are: an offload may have joined or cut them."""
+    def has(self, place, exact, parts, until=float("inf")):
+        """Whether the packet at a place is among others, or its bytes are, up to a moment: an offload may have joined
+        or cut them."""
         packet, each = self.packets[place], self.seen[place]
-        if packet.segment[:16] in exact:
-            return True
-        if not each or not packet.size or packet.flags & RST:
-            return False
+        if not each or not packet.size:
+            return identity(packet.segment) in exact
         at = bisect_right(parts, (each.first, float("inf")))
-        return any(first <= each.first < stop or each.first <= first < each.stop
-                   for first, stop in parts[max(0, at - 50):at + 1])
+        return any(moment <= until and (first <= each.first < stop or each.first <= first < each.stop)
+                   for first, stop, moment in parts[max(0, at - 50):at + 1])
 
     def lacking(self, sender):
-        """The identities of the packets that came from the other host, and that its capture doesn't have."""
-        keys = sender.keys(sender.own)
-        return {id(self.packets[place]) for place in range(self.start, len(self.packets))
-                if self.packets[place].source == sender.own and not self.has(place, *keys)}
+        """The identities of the packets that came from the other host, and that its capture doesn't have: no bytes that
+        were sent before they came, and of equal acknowledgments at the beginning, fewer than came."""
+        exact, parts = sender.keys(sender.own)
+        places = [place for place in range(self.start, len(self.packets)) if self.packets[place].source == sender.own]
+        more = Counter(identity(self.packets[place].segment) for place in places if not self.packets[place].size)
+        more.subtract(exact)
+        found, begins = set(), True
+        for place in places:
+            packet, key = self.packets[place], identity(self.packets[place].segment)
+            begins = begins and (packet.size > 0 or more[key] > 0)
+            if begins and not packet.size:
+                more[key] -= 1
+                found.add(id(packet))
+            elif not self.has(place, exact, parts, self.moments[place] + self.skew):
+                found.add(id(packet))
+        return found

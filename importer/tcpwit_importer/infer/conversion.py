@@ -3,6 +3,7 @@ from bisect import bisect_right
 
 from ..capture.clocks import SAME, bounds_of, clock_of, refuse_distant
 from ..capture.copies import without_copies
+from ..capture.segments import identity
 from ..trace import header as headers
 from ..trace.lines import seen_once
 from .calls import Calls
@@ -127,10 +128,11 @@ def leave_out_unsent(connection, captures, last, clock):
     for host, name in captures.items():
         sender = captures[1 - host]
         ended = clock.at(last[1]) if host == 0 else last[0]
-        sent = {packet.segment[:16] for packet in connection.seen[sender] if connection.hosts[packet.source] != host}
+        sent = {identity(packet.segment) for packet in connection.seen[sender]
+                if connection.hosts[packet.source] != host}
         for place, packet in enumerate(connection.seen[name]):
             moment = clock.at(packet.moment) if host == 1 else packet.moment
-            if moment > ended and connection.hosts[packet.source] != host and packet.segment[:16] not in sent:
+            if moment > ended and connection.hosts[packet.source] != host and identity(packet.segment) not in sent:
                 del connection.seen[name][place:]
                 break
 

@@ -5,9 +5,11 @@ The first of these that shows something decides:
 - the capture marks the packets that its host sent
 - only one end's checksums are wrong: its network card finishes them after the capture
 - one end's TTL is one with which hosts begin, and the other's is less: no router is before the first one's host; if
-  both are less, the capture was made between them
+  both are less, or if that host doesn't answer the handshake within a millisecond, the capture was made between them
 - one end answers the handshake within a millisecond, and at least three times as fast as it is answered; if neither
   does, or if it's the end that TTLs don't show, the capture was made between them
+
+Without a handshake, the quickest acknowledgments tell whether it was made at the host that TTLs show.
 
 A capture has one place, so each connection votes for or against its addresses, by what it shows.
 """
@@ -28,8 +30,11 @@ AT_ONCE = "it answers at once"
 FORWARDED = "its host forwards packets"
 DISTANT = "the TTLs of both hosts show routers before it"
 CONTRARY = "TTLs and times show different hosts"
+LATE = "the host that TTLs show doesn't answer at once"
 SLOW = "neither host answers much sooner than the other"
 NEITHER = "its packets show neither host, or both"
+# Signs that only a capture at the host itself has; a capture near it may have the others.
+CLOSE = {MARKS, UNFINISHED, AT_ONCE}
 # How much a sign counts.
 CERTAIN, STRONG, MEDIUM, WEAK = 10**6, 1000, 10, 1
 
@@ -72,21 +77,47 @@ def by_distance(connection, signs):
     if is_far(signs.client) and is_far(signs.server):
         return Found(BETWEEN, MEDIUM, (DISTANT,))
     client, server = by_lifetime(signs.client, signs.server), by_lifetime(signs.server, signs.client)
-    weight = MEDIUM if client or server else WEAK
     if signs.completed is not None:
-        waited, answered = signs.answered - signs.opened, signs.completed - signs.answered
-        client += (AT_ONCE,) if is_fast(answered, waited) else ()
-        server += (AT_ONCE,) if is_fast(waited, answered) else ()
+        return by_handshake(connection, signs, client, server)
+    if client:
+        return by_answers(connection.client, client, signs.client, signs.server)
+    return by_answers(connection.server, server, signs.server, signs.client) if server else None
+
+
+def by_handshake(connection, signs, client, server):
+    """What the times of a handshake show. Each end has the reasons by which TTLs show it."""
+    weight = MEDIUM if client or server else WEAK
+    waited, answered = signs.answered - signs.opened, signs.completed - signs.answered
+    client += (AT_ONCE,) if is_fast(answered, waited) else ()
+    server += (AT_ONCE,) if is_fast(waited, answered) else ()
     if client and server:
         return Found(BETWEEN, WEAK, (CONTRARY,))
-    if client or server:
-        return Found(connection.client if client else connection.server, weight, client or server)
-    return None if signs.completed is None else Found(BETWEEN, WEAK, (SLOW,))
+    if not client and not server:
+        return Found(BETWEEN, WEAK, (SLOW,))
+    if (answered if client else waited) > SOON:
+        return Found(BETWEEN, weight, (LATE,))
+    return Found(connection.client if client else connection.server, weight, client or server)
+
+
+def by_answers(end, reasons, own, other):
+    """What the quickest acknowledgments of a connection without a handshake show about the end that TTLs show. A host
+    may acknowledge late, and the other one be near. So they don't show an end without TTLs."""
+    if is_soon(own.quickest):
+        return Found(end, MEDIUM, (*reasons, AT_ONCE))
+    if own.quickest is not None and is_soon(other.quickest):
+        return Found(BETWEEN, WEAK, (CONTRARY,))
+    return Found(end, MEDIUM, reasons)
+
+
+def is_soon(time):
+    """Whether an answer came at once, if one came at all."""
+    return time is not None and time <= SOON
 
 
 def is_forwarded(signs):
-    """Whether a capture of a router has the packets of both ends before and after it forwards them."""
-    return all(sender.least < sender.greatest for sender in (signs.client, signs.server))
+    """Whether a capture of a router or a bridge has the packets of both ends before and after it forwards them."""
+    return all(sender.least < sender.greatest or None not in (sender.arrived, sender.left) and
+               sender.arrived != sender.left for sender in (signs.client, signs.server))
 
 
 def is_unfinished(sender, other):
@@ -126,6 +157,7 @@ class Places:
             connection.place = place = None if is_loopback(connection) else self.of(connection)
             if place:
                 self.decided[key_of(place)] += 1
+                connection.is_certain = not CLOSE.isdisjoint(self.reasons.get(key_of(place), ()))
         if len(self.votes) > MOST:
             self.votes = +self.votes
 
