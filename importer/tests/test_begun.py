@@ -41,7 +41,7 @@ class Output(WithCaptures):
 
     def test_the_level(self):
         self.judged()
-        self.assertIn("judge --json --least recovery --case", self.text("words"))
+        self.assertIn("judge --json --least recovery\n", self.text("words"))
         self.judged("--level", "none", "--from", "full", cut=0)
         self.assertIn("judge --json --least none --from recovery --case", self.text("words"))
         self.judged("--level", "none", cut=0)

@@ -140,8 +140,8 @@ class Index:
         self.known = {None: {}, False: {}, True: {}}
 
     def add(self, packet):
-        """Adds a packet. Others like it may be plain, except until a handshake's end, while answers are timed, or at the
-        connection's end."""
+        """Adds a packet. Others like it may be plain, except until a handshake's end, while answers are timed, and at
+        the connection's end."""
         connection = self.table.add(packet)
         self.capture.last = max(self.capture.last, packet.moment)
         key = bytes_of(packet.source, packet.target)
