@@ -43,9 +43,9 @@ class Output(WithCaptures):
         self.judged()
         self.assertIn("judge --json --least recovery\n", self.text("words"))
         self.judged("--level", "none", "--from", "full", cut=0)
-        self.assertIn("judge --json --least none --from recovery --case", self.text("words"))
+        self.assertIn("judge --json --least none --from recovery\n", self.text("words"))
         self.judged("--level", "none", cut=0)
-        self.assertIn("judge --json --least none --case", self.text("words"))
+        self.assertIn("judge --json --least none\n", self.text("words"))
 
     def test_two_captures(self):
         self.talk.frames[1] = self.talk.frames[1][4:]
