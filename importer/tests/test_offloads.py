@@ -1,7 +1,7 @@
 """Tests cutting and matching large segments, clocks and headers."""
 import unittest
 
-from tcpwit_importer.capture.clocks import SAME, clock_of
+from tcpwit_importer.capture.clocks import SAME, bounds_of, clock_of
 from tcpwit_importer.capture.connections import Connection
 from tcpwit_importer.capture.offloads import Flow, Outgoing, cut
 from tcpwit_importer.capture.segments import ACK, FIN, PSH
@@ -10,7 +10,7 @@ from tcpwit_importer.trace.header import header
 
 from .wire import ONE, ZERO, Talk, packets, segment
 
-CWR = 128
+CWR, AT = 128, 100 * 10**9
 
 
 def sent(number, payload, flags=ACK, acknowledgment=7, options=b"", window=1000):
@@ -102,6 +102,22 @@ class Clocks(unittest.TestCase):
         clock = clock_of([(10, 5_000_100), (30, 5_000_400)], [(20, 4_999_900)])
         self.assertEqual((clock.shift, clock.rate, clock.skew), (5_000_000, 0.0, 0))
         self.assertEqual(clock.at(5_000_007), 7)
+
+    def test_equal_segments_of_which_a_capture_lacks_some(self):
+        talk = Talk()
+        talk.send(0, payload=b"a")
+        for _ in range(3):
+            talk.send(1)
+        found = {host: packets(talk, host) for host in (0, 1)}
+        ends = {found[0][0].source: 0, found[0][0].target: 1}
+        for skipped, sent in ((0, [1, 4]), (6, [])):
+            connection = Connection(*ends, 0)
+            connection.hosts, connection.seen = ends, {"c0": found[0], "c1": found[1][skipped:]}
+            above, below = bounds_of([connection], {0: "c0", 1: "c1"})
+            # A segment is in transit for 1 ms. Of three equal ones, the first counts.
+            self.assertEqual({bound for _, bound in above}, {10**6} if skipped == 0 else set())
+            self.assertEqual([(moment - AT) // 10**6 // 2 for moment, _ in below], sent)
+            self.assertEqual({bound for _, bound in below}, {-10**6} if sent else set())
 
     def test_a_drift(self):
         # Host 1 gains 50 us a second; segments take 10 us each way.

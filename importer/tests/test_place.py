@@ -126,8 +126,9 @@ class Place(WithCaptures):
         for reply, expected in ((SLOW, "not judged: it began before the capture, and only TTLs show that this was made "
                                  "at a host, not near it (--host says it)"), (FAST, "none      no ack-late")):
             pcap(f"{self.folder}/c.pcap", self.begun(SLOW, reply, (64, 53)))
-            status, out, _ = run(f"{self.folder}/c.pcap", *self.lab(NO, 1))
+            _, out, _ = run(f"{self.folder}/c.pcap", *self.lab(NO, 1))
             self.assertIn(f":80   {expected}", out)
+            self.assertEqual("Only one host was captured" in out, reply == FAST)
             _, out, _ = run(f"{self.folder}/c.pcap", *self.lab(NO, 1), "--host", "client")
             self.assertIn(":80   none      no ack-late", out)
             # Another connection shows that the host answers at once.

@@ -23,6 +23,17 @@ class Segments(unittest.TestCase):
             self.assertEqual(list(segments.listed(bytes(given))), found)
         self.assertEqual(segments.values(SHIFT, 1, bytes([3, 3, 1, 3, 2, 3, 4, 0, 0, 3, 3, 2])), [b"\x01", b"\x02"])
 
+    def test_what_two_captures_show_of_the_same_segment(self):
+        def of(flags=ACK, payload=b"", options=b"", checksum=7):
+            return segments.identity(segment(ZERO, ONE, 1, 7, flags, payload, options, checksum=checksum))
+
+        stamps = bytes((8, 10, *range(8), 1, 1))
+        # An offload joins bytes, and leaves checksums unfinished.
+        self.assertEqual(of(payload=b"a", options=stamps), of(payload=b"ab", options=stamps, checksum=9))
+        self.assertNotEqual(of(options=stamps), of(options=stamps[:9] + b"\x09\1\1"))
+        self.assertNotEqual(of(), of(SYN))
+        self.assertEqual(of(SYN, options=bytes([2, 4, 5, 180])), of(SYN, options=bytes([2, 4, 5, 100])))
+
 
 if __name__ == "__main__":
     unittest.main()

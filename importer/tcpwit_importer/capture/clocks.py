@@ -3,6 +3,7 @@
 Each segment in both captures bounds the difference of the clocks, because it can't be received before it was sent.
 Segments of one direction bound the difference from above, those of the other direction from below.
 """
+from collections import Counter
 from typing import NamedTuple
 
 from ..problem import Problem
@@ -33,22 +34,25 @@ def bounds_of(connections, hosts):
     """Bounds of the difference: pairs (moment at host 1, maximum) and (moment at host 1, minimum)."""
     above, below = [], []
     for connection in connections:
-        sent, came = {0: {}, 1: {}}, {0: {}, 1: {}}
-        for host, name in hosts.items():
-            for packet in connection.seen.get(name, []):
-                found = sent if connection.hosts.get(packet.source) == host else came
-                found[host].setdefault(identity(packet.segment), []).append(packet.moment)
-        above += [(moment, moment - first) for first, moment in both(sent[0], came[1])]
-        below += [(first, first - moment) for first, moment in both(sent[1], came[0])]
+        above += [(moment, moment - sent) for sent, moment in passed(connection, hosts, 0)]
+        below += [(sent, sent - moment) for sent, moment in passed(connection, hosts, 1)]
     return above, below
 
 
-def both(sent, came):
-    """When a segment was first sent, and each moment when it was received. Of equal segments, such as duplicate
-    acknowledgments, a capture that begins late may lack the first ones; then nothing shows which belong together."""
-    for key, moments in came.items():
-        if len(moments) == len(sent.get(key, ())):
-            yield from ((sent[key][0], moment) for moment in moments)
+def passed(connection, hosts, sender):
+    """When segments of a host were sent, and when they were received. Equal ones, such as duplicate acknowledgments,
+    only show that if both captures have all: one that begins late may lack the first."""
+    sent, came, more = {}, {}, Counter()
+    for host, name in hosts.items():
+        found, step = (sent, 1) if host == sender else (came, -1)
+        for packet in connection.seen.get(name, []):
+            if connection.hosts.get(packet.source) == sender:
+                key = identity(packet.segment)
+                if key in found:
+                    more[key] += step
+                else:
+                    found[key] = packet.moment
+    return [(sent[key], moment) for key, moment in came.items() if key in sent and not more[key]]
 
 
 def clock_of(above, below):

@@ -30,7 +30,7 @@ class Output:
         self.count += 1
         self.yes += result.verdict == "yes"
         self.no += result.verdict == "no"
-        self.half += result.hosts == 1
+        self.half += result.hosts == 1 and result.verdict is not None
         self.between += result.is_between and result.verdict is not None
         self.status = max(self.status, result.status)
         if self.options.annotate:
