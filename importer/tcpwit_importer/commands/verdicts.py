@@ -10,7 +10,7 @@ from typing import Any
 
 from ..capture.connections import refuse_gaps
 from ..capture.packets import shown
-from ..files import remove, without_collection, write_file
+from ..files import remove, write_file
 from ..infer.begun import beginnings
 from ..infer.conversion import Trace
 from ..infer.hosts import Undecided
@@ -19,6 +19,7 @@ from ..infer.opening import is_made_up
 from ..infer.place import BETWEEN
 from ..infer.silence import LATE
 from ..infer.unjudged import extension, refuse
+from ..objects import without_collection
 from ..problem import Notes, Problem, counted, decoded, place_of
 from ..remedies import LESS_AT_ONCE
 from ..trace import header as headers
