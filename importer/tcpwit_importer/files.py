@@ -1,7 +1,5 @@
 """Files of a recording: reads them, also if gzip compressed them, and writes new ones."""
 import contextlib
-import functools
-import gc
 import gzip
 import io
 import os
@@ -42,18 +40,6 @@ def write_file(name, parts):
                 raise
     except OSError as error:
         raise Problem(f"{name}: {error.strerror}", "choose a place that can be written") from error
-
-
-def without_collection(act):
-    """A function that makes many objects, but no cycles of them: Python looks for none meanwhile."""
-    @functools.wraps(act)
-    def acting(*words, **named):
-        gc.disable()
-        try:
-            return act(*words, **named)
-        finally:
-            gc.enable()
-    return acting
 
 
 def remove(name):

@@ -13,6 +13,8 @@ from .problem import plain
 # Seconds after which a part is shown, and between two updates.
 PATIENCE, PACE = 2, 0.5
 REMOVED = "\r\033[K"
+# The columns of most terminals.
+USUAL = 80
 
 
 class Part:
@@ -67,8 +69,8 @@ def of_file(what, file):
 
 
 def width_of(terminal):
-    """The columns of a terminal."""
+    """The columns of a terminal. One that doesn't know them says 0."""
     try:
-        return os.get_terminal_size(terminal.fileno()).columns
+        return os.get_terminal_size(terminal.fileno()).columns or USUAL
     except OSError:
-        return 80
+        return USUAL

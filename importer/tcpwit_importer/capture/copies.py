@@ -11,11 +11,25 @@ FEW = 1000
 
 
 class _Transmission:
-    """A packet that was sent once: when it was captured, and where."""
-    __slots__ = ("moment", "places")
+    """A packet that was sent once: when it was captured first, and where. Most have no other places."""
+    __slots__ = ("moment", "first", "others")
 
-    def __init__(self, moment, place):
-        self.moment, self.places = moment, {place}
+    def __init__(self, packet):
+        self.moment, self.first, self.others = packet.moment, packet, ()
+
+    def has(self, place):
+        """Whether it was captured at a place."""
+        return place == place_of(self.first) or place in self.others
+
+    def add(self, place):
+        """It was captured at another place, too."""
+        self.others = self.others or set()
+        self.others.add(place)
+
+
+def place_of(packet):
+    """Where a packet was captured."""
+    return packet.capture, packet.interface, packet.lifetime
 
 
 def without_copies(packets, notes):
@@ -44,18 +58,18 @@ def _compared(packets):
             recent = {key: found for key, found in recent.items() if abs(packet.moment - found[-1].moment) <= SOON}
             full = 2 * len(recent) + FEW
         key = (packet.source, packet.identification, packet.outgoing, packet.segment)
-        place = (packet.capture, packet.interface, packet.lifetime)
         if key not in recent:
-            recent[key] = [_Transmission(packet.moment, place)]
+            recent[key] = [_Transmission(packet)]
             originals[packet.source] += 1
             continue
+        place = place_of(packet)
         before = [each for each in recent[key] if abs(packet.moment - each.moment) <= SOON]
-        elsewhere = next((each for each in before if place not in each.places), None)
+        elsewhere = next((each for each in before if not each.has(place)), None)
         if elsewhere:
-            elsewhere.places.add(place)
+            elsewhere.add(place)
             copies.add(at)
             continue
-        recent[key] = [*before, _Transmission(packet.moment, place)]
+        recent[key] = [*before, _Transmission(packet)]
         if before and packet.identification:
             doubtful.setdefault(packet.source, set()).add(at)
         else:

@@ -10,7 +10,8 @@ import shutil
 import tempfile
 from array import array
 
-from ..files import opened, without_collection
+from ..files import opened
+from ..objects import without_collection
 from ..problem import Problem
 from ..progress import Part
 from .blocks import Blocks

@@ -11,7 +11,7 @@ from ..capture.connections import refuse_gaps
 from ..capture.packets import shown
 from ..capture.sizes import UNKNOWN, Size, sizes_of
 from ..figures.figures import figures_of
-from ..files import remove, without_collection, write_file
+from ..files import remove, write_file
 from ..infer.begun import beginnings
 from ..infer.conversion import Trace
 from ..infer.hosts import CLIENT, SERVER, Undecided
@@ -20,6 +20,7 @@ from ..infer.opening import is_made_up
 from ..infer.place import BETWEEN
 from ..infer.silence import LATE
 from ..infer.unjudged import extension, refuse
+from ..objects import without_collection
 from ..problem import Notes, Problem, counted, decoded, place_of
 from ..remedies import LESS_AT_ONCE
 from ..trace import header as headers

@@ -111,10 +111,12 @@ class InferredWriter(Writer):
                 yield from self.calls_at(place, earlier)
             if (place := (letter, host, id(packet), BEFORE)) in script.lines:
                 yield from self.calls_at(place, moment)
-            found = self.digits(flow, letter, packet)
-            time = self.note([packet] * len(found), letter * len(found), moment)
+            time, code = self.time(moment), ord(letter)
             head = f"{time} {THREADS[letter, host]} {letter} {host}"
-            for digits in found:
+            for digits in self.digits(flow, letter, packet):
+                self.packets.append(packet)
+                self.letters.append(code)
+                self.times.append(time)
                 yield f"{head} {digits}\n"
             if (place := (letter, host, id(packet), AFTER)) in script.lines:
                 yield from self.calls_at(place, moment)
@@ -133,24 +135,21 @@ class InferredWriter(Writer):
             latest = moment if moment > latest else latest
             yield ("O" if hosts[packet.source] == host else "I", host, latest), self.connection, packet
 
-    def note(self, packets, letters, moment):
-        """Notes what the next lines show, and returns their time. The first line of a trace has the time of a
-        second."""
+    def time(self, moment):
+        """The time of a line. The first one of a trace has that of a second."""
         if self.start is None:
             self.start = moment - 10**9
-        time = (moment - self.start) // 1000
-        self.packets += packets
-        self.letters += letters.encode()
-        self.times.extend([time] * len(packets))
-        return time
+        return (moment - self.start) // 1000
 
     def calls_at(self, place, moment):
         """The lines of the calls at a place, which are then forgotten. There may be none."""
         if not (calls := self.script.lines.pop(place)):
             return ()
-        time = self.note([None] * len(calls), "".join([letter for _, letter in calls]), moment)
-        lines = []
+        time, lines = self.time(moment), []
         for call, letter in calls:
+            self.packets.append(None)
+            self.letters.append(ord(letter))
+            self.times.append(time)
             thread = self.threads.get(call.thread) or self.thread(call.thread)
             text = call.text if letter == "T" else self.begin_text(call) if letter == "B" else self.end_text(call)
             lines.append(f"{time} {thread} {text}\n")

@@ -12,7 +12,7 @@ class Span:
         self.start = self.stop = start
         self.starts, self.places, self.segments = array("q"), array("Q"), []
         # The part that was asked for last.
-        self.latest = 0
+        self.latest = -1
 
     def extend(self, stop, segment, place):
         """Adds the bytes of a segment from a place on, up to an offset."""
@@ -36,30 +36,29 @@ class Span:
             else:
                 mine += more
         self.starts, self.places, self.segments = others if count < len(after.starts) else own
-        self.stop, self.latest = after.stop, 0
+        self.stop, self.latest = after.stop, -1
         if stop > after.stop:
             self.extend(stop, *rest)
 
     def bytes(self, first, last):
         """The bytes between two offsets."""
-        found, place = [], self._part(first)
-        while first < last:
-            begin, stop = self.starts[place], self._stop(place)
-            at, until = self.places[place] - begin, min(stop, last)
-            found.append(self.segments[place][at + first:at + until])
-            first, place = until, place + 1
-        return found[0] if len(found) == 1 else b"".join(found)
-
-    def _stop(self, place):
-        """Where a part ends."""
-        return self.starts[place + 1] if place + 1 < len(self.starts) else self.stop
+        if first >= last:
+            return b""
+        place, found = self._part(first), []
+        while True:
+            begin = self.starts[place]
+            stop = self.starts[place + 1] if place + 1 < len(self.starts) else self.stop
+            at = self.places[place] - begin
+            if last <= stop:
+                piece = self.segments[place][at + first:at + last]
+                return b"".join((*found, piece)) if found else piece
+            found.append(self.segments[place][at + first:at + stop])
+            first, place = stop, place + 1
 
     def _part(self, offset):
-        """The place of the part with a byte. Most are asked for in order."""
-        for place in (self.latest, self.latest + 1):
-            if place < len(self.starts) and self.starts[place] <= offset < self._stop(place):
-                break
-        else:
+        """The place of the part with a byte. Most parts are asked for in order."""
+        place = self.latest + 1
+        if place >= len(self.starts) or self.starts[place] != offset:
             place = max(0, bisect_right(self.starts, offset) - 1)
         self.latest = place
         return place
