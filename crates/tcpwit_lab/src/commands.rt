@@ -6,6 +6,7 @@ use crate::output::{
 };
 use crate::report::{JudgedReport, RemarkedReport, Report};
 use crate::words::{Asked, Form, Judging};
+use cli::INPUT_BYTES;
 use counted::Counted;
 use drawing::{draw, show};
 use judging::{JudgeFault, Judgement, judge};
@@ -14,7 +15,7 @@ use replayed::Case;
 use std::alloc::{AllocError, Global};
 use std::fs::File;
 use std::io;
-use std::io::{BufRead, Eprint, ErrorKind, Input, Read, Write};
+use std::io::{BufRead, BufReader, Eprint, ErrorKind, Input, Read, Write};
 use std::rt::Files;
 use verdict::Verdict;
 use why::{Explanation, explain};
@@ -49,7 +50,9 @@ fn judge_many<H: Files + Eprint + Input, W: Write>(
     judging: Judging<'_>,
     w: &mut Counted<W>,
 ) -> u8 {
-    let mut reader = rt.reader();
+    let Ok(mut reader) = BufReader::with_capacity(alloc, INPUT_BYTES, rt.reader()) else {
+        return say_bad_memory(rt, Form::Json, w);
+    };
     let mut text = Vec::new(alloc);
     let mut highest = DONE;
     for _ in 0..u64::MAX {
