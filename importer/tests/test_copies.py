@@ -1,5 +1,6 @@
 """Tests which packets count as copies that a capture made itself."""
 import io
+import time
 import unittest
 from unittest import mock
 
@@ -100,6 +101,17 @@ class Copies(unittest.TestCase):
         frames = [(samples.MOMENT + at, links.cooked_2(packet, 4, interface))
                   for at, interface in enumerate((3, 7, 3, 7, 3, 3, 7))]
         self.assertEqual(self.kept(frames, 276), [1, 3, 5, 6])
+
+    def test_many_equal_packets(self):
+        # A host without identifications sends more at once than any host does.
+        packet = links.v4(ZERO, ONE, segment(ZERO, ONE, 1, 2, ACK), identification=0)
+        begun = time.process_time()
+        frames = [(samples.MOMENT + at, links.cooked_2(packet, 4, 3)) for at in range(20000)]
+        self.assertEqual(self.kept(frames, 276), list(range(1, 20001)))
+        self.assertLess(time.process_time() - begun, 20)
+        # Each of the last hundred may still have a copy.
+        frames = frames[:300] + [(samples.MOMENT + 300 + at, links.cooked_2(packet, 4, 7)) for at in range(100)]
+        self.assertEqual(self.kept(frames, 276), list(range(1, 301)))
 
     def test_other_directions_are_left_to_the_trace(self):
         frames = self.twice(lambda packet: links.cooked_2(packet, 0, 1),

@@ -8,6 +8,8 @@ SOON = 10**6
 OF_TEN = 9
 # How many packets are remembered, at least, before older ones are forgotten.
 FEW = 1000
+# With how many equal packets one is compared, at most.
+MOST = 100
 
 
 class _Transmission:
@@ -69,7 +71,7 @@ def _compared(packets):
             elsewhere.add(place)
             copies.add(at)
             continue
-        recent[key] = [*before, _Transmission(packet)]
+        recent[key] = [*before[1 - MOST:], _Transmission(packet)]
         if before and packet.identification:
             doubtful.setdefault(packet.source, set()).add(at)
         else:
