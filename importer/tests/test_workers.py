@@ -1,5 +1,6 @@
 """Tests the processes of tcpwit-judge: the order of results, and what SIGTERM leaves."""
 import gzip
+import json
 import os
 import signal
 import subprocess
@@ -22,6 +23,12 @@ SLOW = """#!/bin/sh
 read line
 echo $$ > {folder}/labs/$$
 exec sleep 60
+"""
+# One that writes its number, too, and answers many traces.
+QUICK = """#!/bin/sh
+[ "$*" = judge ] && exit 2
+echo $$ > {folder}/labs/$$
+while read -r line; do if [ "$line" = end ]; then echo '{answer}'; fi; done
 """
 
 
@@ -114,6 +121,23 @@ class Terminated(test_judge.WithCaptures):
     def test_annotations_and_reports(self):
         self.check(*self.terminated([self.compressed(), "--jobs", "2", "--annotate", f"{self.folder}/out"], 2), labs=2)
         self.assertFalse(os.path.exists(f"{self.folder}/out"))
+
+    def test_no_lab_outlasts_the_command(self):
+        with open(self.program, "w", encoding="ascii") as file:
+            file.write(QUICK.format(folder=self.folder, answer=json.dumps(test_judge.YES | {"status": 0})))
+        capture = self.compressed()
+        for source, words in ((None, [capture, "--jobs", "1"]), (None, [capture, "--jobs", "2"]),
+                              (capture, ["-", "--jobs", "2"])):
+            with gzip.open(source or capture, "rb") as file:
+                done = subprocess.run([sys.executable, COMMAND, *words, "--lab", self.program, "--host", "client"],
+                                      input=file.read(), capture_output=True, check=False, timeout=60)
+            self.assertIn(b"3 connections: 3 yes, 0 no.", done.stdout, words)
+            numbers = os.listdir(f"{self.folder}/labs")
+            self.assertTrue(numbers)
+            for number in numbers:
+                with self.assertRaises(ProcessLookupError):
+                    os.kill(int(number), 0)
+                os.remove(f"{self.folder}/labs/{number}")
 
     def test_standard_input_that_goes_on(self):
         name, = self.files(hosts=(0,))

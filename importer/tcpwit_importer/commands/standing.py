@@ -3,6 +3,8 @@ import subprocess
 
 # The line after each text.
 END = b"end\n"
+# The programs that this process started, by their words.
+running = {}
 
 
 class Standing:
@@ -48,3 +50,17 @@ class Standing:
         except BrokenPipeError:
             # The rest of a text that it didn't read.
             pass
+
+
+def answer_of(words, environment, lines):
+    """The answer of this process's program with these words, which is started if it isn't running yet."""
+    key = tuple(words)
+    if key not in running:
+        running[key] = Standing(words, environment)
+    return running[key].answer(lines)
+
+
+def end_all():
+    """Ends all programs that this process started."""
+    while running:
+        running.popitem()[1].end()

@@ -15,7 +15,7 @@ from ..problem import Notes, Parser, Problem, counted, named_file, say, status_o
 from ..progress import Part
 from ..remedies import NOTHING_SENT, WIDER
 from ..trace import header as headers
-from . import lab
+from . import lab, standing
 from .annotated import annotate
 from .live import Pool, Reader, Stream, standard_input, watch
 from .options import add_first_level, add_wire, number_within, refuse_laxer, slack
@@ -198,7 +198,7 @@ def judge_files(options, program, notes):
             places.decide(connections)
             notes.said += places.lines()
         judges = Judge(program, {capture.name: capture for capture in captures}, roles, options, header_values(options))
-        stack.callback(judges.close)
+        stack.callback(standing.end_all)
         if judges.clock != SAME:
             notes.say(f"{said(judges.clock)} (host 0 is that of {captures[0].name})")
         output = Output(options, [str(connection) for connection in connections])

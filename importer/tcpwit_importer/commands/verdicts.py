@@ -25,11 +25,10 @@ from ..problem import Notes, Problem, counted, decoded, place_of
 from ..remedies import LESS_AT_ONCE
 from ..trace import header as headers
 from ..trace.header import FULL, LEVELS, VALUES
-from . import lab, spawned
+from . import lab, spawned, standing
 from .ladder import ladder
 from .refusals import refusals_of
 from .retransmissions import Witness
-from .standing import Standing
 from .wireshark import Captured, named, placed
 
 # What the line of a verdict has after its first word.
@@ -166,8 +165,6 @@ class Judge:
         self.clock = roles.clock()
         # For each program, the variables would be encoded again.
         self.environment = dict(os.environb)
-        # The processes that judge small connections, by their options. Each worker process starts its own.
-        self.standing = {}
 
     @without_collection
     def result(self, number, indexed, moment=None):
@@ -326,21 +323,12 @@ class Judge:
     def answer_of_many(self, lines, words):
         """The answer to a trace of a process that judges many. None: it gives none, or says what is wrong, so that a
         process has to judge the trace alone."""
-        key = tuple(words)
-        if key not in self.standing:
-            self.standing[key] = Standing([self.program, *words, "--many"], self.environment)
-        line = self.standing[key].answer(lines)
+        line = standing.answer_of([self.program, *words, "--many"], self.environment, lines)
         try:
             status = json.loads(line or "")["status"]
         except ValueError:
             return None
         return spawned.Done(line, b"", status) if status in (lab.YES, lab.NO) else None
-
-    def close(self):
-        """Ends the processes that judge many connections."""
-        for process in self.standing.values():
-            process.end()
-        self.standing = {}
 
     def answer(self, lines, words):
         """What a process that judges a trace with these lines prints, on both outputs, and its status."""

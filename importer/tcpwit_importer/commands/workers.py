@@ -9,10 +9,12 @@ from collections import deque
 from concurrent.futures import ProcessPoolExecutor
 from concurrent.futures.process import BrokenProcessPool
 from itertools import islice
+from multiprocessing.util import Finalize
 
 from ..problem import Problem, Terminated
 from ..progress import Part
 from ..remedies import LESS_AT_ONCE
+from . import standing
 
 # The option of prctl(2) for the signal that a process gets when its parent ends.
 PARENT_DEATH = 1
@@ -82,8 +84,10 @@ class Results:
 
 
 def begin():
-    """A worker process shows no progress, as the others work at the same time, and ends if the command is killed."""
+    """A worker process shows no progress, as the others work at the same time, and ends if the command is killed. Its
+    programs end with it."""
     Part.command = None
+    Finalize(None, standing.end_all, exitpriority=1)
     signal.signal(signal.SIGTERM, signal.SIG_DFL)
     if prctl := getattr(ctypes.CDLL(None), "prctl", None):
         prctl(PARENT_DEATH, signal.SIGKILL)
