@@ -14,9 +14,11 @@ import time
 TOP = os.path.dirname(os.path.dirname(os.path.abspath(__file__)))
 PYTHON = "/usr/bin/python3"
 UNIT = [PYTHON, "-m", "unittest", "-q"]
+PART = [PYTHON, "-m", "unittest", "discover", "-q", "-t", ".", "-s", "tests", "-p"]
 # Each test has a name, the folder in which it runs, and its command. The longest come first.
 TESTS = [
-    ("the importer", "importer", UNIT),
+    ("the importer, m to z", "importer", [*PART, "test_[m-z]*.py"]),
+    ("the importer, a to l", "importer", [*PART, "test_[a-l]*.py"]),
     ("the runner", "stacks", [*UNIT, "tests.test_runner"]),
     ("tools", "tools", [*UNIT, "test_bodies", "test_examples", "test_unproved"]),
     ("pages", "tools", [*UNIT, "test_docs", "test_pictures"]),
