@@ -13,7 +13,7 @@ all its steps and the verdict is `yes`. The only exception is the kind with line
 
 The texts have format version 2: both hosts send a shift of 14 and an MSS of 65495, so that a million bytes may be
 outstanding. The kinds whose names begin with `watched` have format version 5, with a slack: duties are judged, also at
-the end. The slack is so long that none is late.
+the end. The slack is so long that none is late. Those whose names begin with `stricter` have version 6.
 """
 
 import random
@@ -25,6 +25,7 @@ from colliding_threads import colliding
 HEADER = ["trace 2", "skew 0", "msl 3600000000", "grain 1000", "minrto 1000000", "extra 65535", "initial 6928"]
 FIRST_EVENT_LINE = 1 + len(HEADER)
 WATCHED_HEADER = ["trace 5", *HEADER[1:], "hosts 2", "congestion full", "slack 1000000000000"]
+STRICT_HEADER = ["trace 6", *WATCHED_HEADER[1:-2], "congestion recovery", WATCHED_HEADER[-1], "sender reno", "growth 1"]
 MSS = 65_495
 SHIFT = 14
 WINDOW = 65_535
@@ -91,6 +92,8 @@ class Case:
         self.steps = []
         self.made = 0
         self.socket = 4
+        # In version 6, a round trip that is due has to be measured.
+        self.due = int(self.header[0] == "trace 6")
 
     def line(self, thread, what):
         """Adds an event line without its step. Returns its number."""
@@ -171,8 +174,8 @@ def handshake(case, connection, listener):
     """Connects host 0 to a listener of host 1. Returns the opener's socket."""
     opener = case.given(CALLERS[0], f"open 0 {connection.ports[0]} {connection.ports[1]}")
     case.take(1, case.carry(connection, 0, 0, "S", None), 0)
-    case.take(0, case.carry(connection, 1, 0, "AS", 1), INITIAL_WINDOW)
-    case.take(1, case.carry(connection, 0, 1, "A", 1), INITIAL_WINDOW)
+    case.take(0, case.carry(connection, 1, 0, "AS", 1), INITIAL_WINDOW, sample=case.due)
+    case.take(1, case.carry(connection, 0, 1, "A", 1), INITIAL_WINDOW, sample=case.due)
     return opener
 
 
@@ -842,13 +845,22 @@ def calls_that_wait_at_places_that_collide(count):
 @kind(7_500, 15_000, 30_000)
 def watched_endpoints_that_are_idle(count):
     """Each has sent and received a byte. The end looks at all of them."""
-    case = Case(header=WATCHED_HEADER)
+    return idle_endpoints(Case(header=WATCHED_HEADER), count)
+
+
+@kind(7_500, 15_000, 30_000)
+def stricter_endpoints_that_are_idle(count):
+    """The same in version 6."""
+    return idle_endpoints(Case(header=STRICT_HEADER), count)
+
+
+def idle_endpoints(case, count):
     listener = case.given(CALLERS[1], "listen 1 80 65535")
     for connection in callers(count):
         opener = handshake(case, connection, listener)
         case.call(CALLERS[0], f"send {opener} 00", "ok 1")
         case.take(1, case.carry(connection, 0, 1, "A", 1, b"\0"), INITIAL_WINDOW, keep=1)
-        case.take(0, case.carry(connection, 1, 1, "A", 2), INITIAL_WINDOW + 1)
+        case.take(0, case.carry(connection, 1, 1, "A", 2), INITIAL_WINDOW + 1, sample=case.due)
     return case
 
 
@@ -866,7 +878,17 @@ def watched_copies_that_wait(count):
 @kind(75_000, 150_000, 300_000)
 def watched_segments_never_sent(count):
     """Host 0 builds acknowledgments, and then sends the one that it built first."""
-    case, connection = Case(header=WATCHED_HEADER), Connection()
+    return segments_never_sent(Case(header=WATCHED_HEADER), count)
+
+
+@kind(75_000, 150_000, 300_000)
+def stricter_segments_never_sent(count):
+    """The same in version 6, where the end looks at all of them."""
+    return segments_never_sent(Case(header=STRICT_HEADER), count)
+
+
+def segments_never_sent(case, count):
+    connection = Connection()
     connected(case, connection)
     made = [case.make(connection, 0, 1, 0, "A") for _ in range(count)]
     case.goes(0, connection.text(0, 1, "A", 1), made[0])

@@ -1,5 +1,5 @@
 #!/usr/bin/env python3
-"""Writes each half of the whole cases of a folder as a case of version 3, or of version 4 or 5 if the whole case is.
+"""Writes each half of the whole cases of a folder as a case of version 3, or of version 4, 5 or 6 if the whole case is.
 
     python3 tools/half_cases.py crates/test_cases/data FOLDER
 
@@ -32,7 +32,7 @@ from tcpwit_importer.capture.segments import SHIFT, SYN, flags, options, values 
 LEFT_OUT = {"dropped-a-segment-of-an-older-connection"}
 
 # How many lines the header of a whole case has, by its first line.
-HEADERS = {"trace 1": 6, "trace 2": 7, "trace 4": 9, "trace 5": 10}
+HEADERS = {"trace 1": 6, "trace 2": 7, "trace 4": 9, "trace 5": 10, "trace 6": 12}
 
 
 def lines_of(text):
@@ -56,7 +56,7 @@ def split_case(text):
 
 def half_header(header):
     """The lines of the header of a half case."""
-    if header[0] in ("trace 4", "trace 5"):
+    if header[0] in ("trace 4", "trace 5", "trace 6"):
         return [*header[:7], "hosts 1", *header[8:]]
     initial = header[6] if len(header) > 6 else "initial 5681"
     return ["trace 3", *header[1:6], initial, "half 0"]

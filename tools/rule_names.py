@@ -1,11 +1,11 @@
 #!/usr/bin/env python3
-"""Writes the lists of rules in bindings/ from the one in crates/verdict/src/rule.rt.
+"""Writes the lists of rules in bindings/ from the one in crates/verdict/src/rule.rt, with their numbers.
 
     tools/rule_names.py          writes bindings/python/tcpwit/rules.py and bindings/rust/src/rule.rs
     tools/rule_names.py --check  only names the files that differ; the status is 1 if there are any
 
 C and Go have no list: they ask the library for the name of a rule's number. The contract of `Rule::name` says that the
-names are those of crates/verdict/specs/Rules.antt.
+names are those of crates/verdict/specs/Rules.antt; crates/spec_tcp_laws/specs/Ascending.antt has the numbers.
 """
 import argparse
 import os
@@ -14,12 +14,16 @@ import sys
 
 TOP = os.path.dirname(os.path.dirname(os.path.abspath(__file__)))
 SOURCE = "crates/verdict/src/rule.rt"
+NUMBERS = "crates/spec_tcp_laws/specs/Ascending.antt"
 
 PYTHON = '''\
 """The rules that a no names. tools/rule_names.py writes this file."""
 from __future__ import annotations
 
 import enum
+
+# The numbers of the rules, in their order.
+NUMBERS = ({numbers})
 
 
 class Rule(enum.Enum):
@@ -29,8 +33,8 @@ class Rule(enum.Enum):
 
     @property
     def number(self) -> int:
-        """The rule's number, from 1 to {count}."""
-        return list(Rule).index(self) + 1
+        """The rule's number: {range}."""
+        return NUMBERS[list(Rule).index(self)]
 '''
 
 RUST = '''\
@@ -50,14 +54,14 @@ impl Rule {{
 {all}
     ];
 
-    /// The rule with this number, from 1 to {count}.
+    /// The rule with this number: {range}.
     pub fn numbered(number: u32) -> Option<Rule> {{
-        Self::ALL.get((number as usize).checked_sub(1)?).copied()
+        Self::ALL.into_iter().find(|rule| rule.number() == number)
     }}
 
-    /// Its number, from 1 to {count}.
+    /// Its number: {range}.
     pub fn number(self) -> u32 {{
-        self as u32 + 1
+        self as u32
     }}
 
     /// The name under which `tcpwit check` prints it.
@@ -76,21 +80,54 @@ impl fmt::Display for Rule {{
 '''
 
 
-def rules_in(code):
-    """The rules in the code of SOURCE, in the order of their numbers: for each variant its description and name."""
+class Listed:
+    """A rule: its variant in the code, what the code says about it, its name, and its number."""
+
+    def __init__(self, variant, about, name, number):
+        self.variant, self.about, self.name, self.number = variant, about, name, number
+
+
+def rules_in(code, definitions):
+    """The rules in the code of SOURCE, with the numbers of NUMBERS, in the order of these."""
     variants = re.findall(r"(?m)^    /// (.*)\n    (\w+),$", code[code.index("pub enum Rule {"):])
     names = dict(re.findall(r'Rule::(\w+) => "([\w-]+)"', code))
-    return {variant: (about, names[variant]) for about, variant in variants}
+    numbers = dict(re.findall(r"(?m)^rule_number rules\.(\w+) = (\d+)$", definitions))
+    rules = [Listed(variant, about, names[variant], int(numbers[variant])) for about, variant in variants]
+    return sorted(rules, key=lambda rule: rule.number)
+
+
+def runs(numbers):
+    """The first and the last number of each run of numbers that follow one another."""
+    found = []
+    for number in numbers:
+        if found and number == found[-1][1] + 1:
+            found[-1][1] = number
+        else:
+            found.append([number, number])
+    return found
+
+
+def said(numbers):
+    """The numbers in words, such as `1 to 52, or 56`."""
+    return ", or ".join(str(first) if first == last else f"{first} to {last}" for first, last in runs(numbers))
+
+
+def spanned(numbers):
+    """The numbers as a tuple of Python."""
+    return ", ".join(str(first) if first == last else f"*range({first}, {last + 1})" for first, last in runs(numbers))
 
 
 def files(rules):
     """The text of each file, by its path."""
-    members = "\n".join(f'    {name.upper().replace("-", "_")} = "{name}"' for _, name in rules.values())
-    variants = "\n".join(f"    /// {about}\n    {variant}," for variant, (about, _) in rules.items())
-    every = "\n".join(f"        Rule::{variant}," for variant in rules)
-    names = "\n".join(f'            Rule::{variant} => "{name}",' for variant, (_, name) in rules.items())
-    return {"bindings/python/tcpwit/rules.py": PYTHON.format(members=members, count=len(rules)),
-            "bindings/rust/src/rule.rs": RUST.format(variants=variants, all=every, names=names, count=len(rules))}
+    numbers = [rule.number for rule in rules]
+    members = "\n".join(f'    {rule.name.upper().replace("-", "_")} = "{rule.name}"' for rule in rules)
+    variants = "\n".join(f"    /// {rule.about}\n    {rule.variant} = {rule.number}," for rule in rules)
+    every = "\n".join(f"        Rule::{rule.variant}," for rule in rules)
+    names = "\n".join(f'            Rule::{rule.variant} => "{rule.name}",' for rule in rules)
+    words = said(numbers)
+    return {"bindings/python/tcpwit/rules.py": PYTHON.format(members=members, numbers=spanned(numbers), range=words),
+            "bindings/rust/src/rule.rs": RUST.format(variants=variants, all=every, names=names, count=len(rules),
+                                                     range=words)}
 
 
 def read(path):
@@ -101,7 +138,7 @@ def read(path):
 
 def differing():
     """The texts that the files should have, by path, of those that have another one."""
-    return {path: text for path, text in files(rules_in(read(SOURCE))).items() if read(path) != text}
+    return {path: text for path, text in files(rules_in(read(SOURCE), read(NUMBERS))).items() if read(path) != text}
 
 
 def main():
@@ -111,7 +148,7 @@ def main():
     found = differing()
     for path, text in found.items():
         if words.check:
-            print(f"{path} differs from {SOURCE}: run tools/rule_names.py")
+            print(f"{path} differs from {SOURCE} or {NUMBERS}: run tools/rule_names.py")
             continue
         with open(os.path.join(TOP, path), "w", encoding="utf-8") as file:
             file.write(text)

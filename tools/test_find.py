@@ -358,15 +358,27 @@ class Watched(Recording):
         self.lines += [f"{self.moment} 99 B status 0", f"{self.moment} 99 E badsocket"]
 
 
+class Strict(Watched):
+    """Such a trace of version 6, whose duties are stricter."""
+
+    def __init__(self, slack, level="recovery"):
+        super().__init__(slack, level)
+        self.HEADER = ["trace 6", *self.HEADER[1:], "sender reno", "growth 1"]
+
+
+def found_case(recording, *words):
+    """The case that is found for a trace with duties, and the answer to it."""
+    lines, witness, _ = find(recording.text(), *words)
+    first = lines[0].replace("trace", "witness")
+    case = "".join(line + "\n" for line in [*lines, first, *witness])
+    ran = subprocess.run([*LAB, "explain"], input=case, capture_output=True, text=True, check=False, timeout=60)
+    return lines, witness, ran.stdout.splitlines()[0]
+
+
 class Duties(unittest.TestCase):
     """In version 5 with a slack, a witness has to keep duties."""
 
-    def found(self, recording, *words):
-        """The case that is found, and the answer to it."""
-        lines, witness, _ = find(recording.text(), *words)
-        case = "".join(line + "\n" for line in [*lines, "witness 5", *witness])
-        ran = subprocess.run([*LAB, "explain"], input=case, capture_output=True, text=True, check=False, timeout=60)
-        return lines, witness, ran.stdout.splitlines()[0]
+    found = staticmethod(found_case)
 
     def test_a_late_host_keeps_what_it_receives(self):
         """A segment doesn't acknowledge what arrived 50 ms before."""
@@ -429,6 +441,99 @@ class Duties(unittest.TestCase):
         _, witness, answer = self.found(it)
         self.assertRegex(answer, "^no [0-9]+ 0 (discarded|dropped)$")
         self.assertRegex(witness[-1], f" (T|K) 0 {came}( |$)")
+
+
+class StricterDuties(unittest.TestCase):
+    """In version 6, an acknowledgment answers what was processed before it was built, and what is built is sent."""
+
+    def closed(self, slack):
+        """The program has closed its socket, and the FIN is acknowledged: bytes need not be kept any more."""
+        it = Strict(slack)
+        it.call(f"close {it.opener}", "ok")
+        it.sent(1, 1, flags=0x11)
+        it.came(1, 2, after=it.CLOCK)
+        return it
+
+    def assert_answered(self, recording, pairs):
+        """The first pass finds a yes, in which each of these arrivals is processed, or dropped, before the segment of
+        its line is built."""
+        lines, witness, answer = found_case(recording, "--budget", "0")
+        self.assertRegex(answer, "^yes", lines)
+        steps = [step.split(" ", 1)[1] for step in witness]
+        built = [place for place, step in enumerate(steps) if step.startswith(("M ", "R "))]
+        for came, sent in pairs:
+            taken = next(at for at, step in enumerate(steps) if re.match(rf"[TK] 0 {came}( |$)", step))
+            number = next(int(step.split()[2]) for step in steps if step.startswith(f"L {sent} "))
+            self.assertLess(taken, built[number - 1], (came, sent))
+
+    def test_bytes_that_are_not_kept(self):
+        """They are acknowledged at once, later, or many times."""
+        for after in (0, 300, 150_000):
+            it = self.closed(200_000)
+            pairs = []
+            for _ in range(30):
+                came = it.came(1, 2, b"0123456789", after=800_000)
+                pairs.append((came, it.sent(2, 1, after=after)))
+            it.stop(2_000_000)
+            self.assert_answered(it, pairs)
+
+    def test_one_acknowledgment_for_several(self):
+        it = self.closed(10_000)
+        came = [it.came(1 + 10 * at, 2, b"0123456789", after=100) for at in range(3)]
+        sent = it.sent(2, 1, after=300)
+        it.stop(2_000_000)
+        self.assert_answered(it, [(line, sent) for line in came])
+
+    def test_a_reset_that_acknowledges(self):
+        it = self.closed(10_000)
+        came = it.came(1, 2, b"0123456789", after=100)
+        sent = it.sent(2, 1, flags=0x14, after=300)
+        it.stop(2_000_000)
+        self.assert_answered(it, [(came, sent)])
+
+    def test_bytes_that_are_kept_later(self):
+        """The next segment shows that they were kept, so the first one doesn't answer them."""
+        it = self.closed(10_000)
+        it.came(1, 2, b"0123456789", after=100)
+        it.sent(2, 1, after=300)
+        came = it.came(1, 2, b"0123456789", after=300_000)
+        sent = it.sent(2, 11)
+        it.stop(2_000_000)
+        self.assert_answered(it, [(came, sent)])
+
+    def test_an_unacceptable_segment(self):
+        it = Strict(10_000)
+        came = it.came(0, 1, after=1000)
+        sent = it.sent(1, 1, after=300)
+        it.stop(2_000_000)
+        self.assert_answered(it, [(came, sent)])
+
+    def test_an_acknowledgment_that_crosses_an_arrival(self):
+        it = Strict(10_000)
+        it.sent(1, 1)
+        came = it.came(1, 1, b"0123456789", after=1000)
+        it.sent(1, 1, after=5_000)
+        sent = it.sent(1, 11)
+        it.stop(2_000_000)
+        self.assert_answered(it, [(came, sent)])
+
+    def test_a_reset_that_no_line_shows(self):
+        """It would have to be sent, so the segment that it answers is dropped. At the end, it may still be sent."""
+        for after, expected in ((100_000, "^no [0-9]+ 0 dropped$"), (900, "^yes")):
+            it = Strict(1000)
+            it.line(5, f"I 0 {it.segment(1, (80, 5000), (1, 1), 0x10, b'')}", 10)
+            it.stop(after)
+            self.assertRegex(found_case(it)[2], expected)
+
+    def test_bytes_that_no_line_shows(self):
+        """They would have to be sent, so the FIN can't follow them. At the end, they may still be sent."""
+        for after, expected in ((100_000, "^no [0-9]+ 0 old-data$"), (900, "^yes")):
+            it = Strict(1000)
+            it.call(f"send {it.opener} 78", "ok 1")
+            it.call(f"shut {it.opener}", "ok")
+            it.sent(2, 1, flags=0x11)
+            it.stop(after)
+            self.assertRegex(found_case(it)[2], expected)
 
 
 if __name__ == "__main__":

@@ -118,7 +118,7 @@ def cut(text):
     """The trace and the witness of a case, if a line begins the witness."""
     lines = [line + b"\n" for line in text.split(b"\n")[:-1]]
     first = lines[0].removesuffix(b"\n").removesuffix(b"\r") if lines else b""
-    version = first[-1:] if first in (b"trace 2", b"trace 3", b"trace 4", b"trace 5") else b"1"
+    version = first[-1:] if first in (b"trace 2", b"trace 3", b"trace 4", b"trace 5", b"trace 6") else b"1"
     place = 0
     for line in lines:
         if line in (b"witness " + version + b"\n", b"witness " + version + b"\r\n"):

@@ -6,16 +6,26 @@ import unittest
 
 import rule_names
 
-# A part of the source: two rules, the second with its name first.
+# A part of the source: three rules, the second with its name first.
 SOURCE = """pub enum Rule {
     /// It is first.
     FirstOne,
     /// It is second.
     Second,
+    /// It comes after a gap.
+    Later,
 }
 
             Rule::Second => "second",
             Rule::FirstOne => "first-one",
+            Rule::Later => "later",
+"""
+
+# Their numbers.
+NUMBERS = """rule_number : Rule → ℕ
+rule_number rules.FirstOne = 1
+rule_number rules.Second = 2
+rule_number rules.Later = 5
 """
 
 
@@ -26,18 +36,24 @@ class Names(unittest.TestCase):
     def test_the_code_has_the_rules_of_the_definitions(self):
         defined = re.findall(r'rule_name rules\.(\w+) = codes "([\w-]+)"',
                              rule_names.read("crates/verdict/specs/Rules.antt"))
-        code = rule_names.rules_in(rule_names.read(rule_names.SOURCE))
-        self.assertEqual([(variant, name) for variant, (_, name) in code.items()], defined)
+        code = rule_names.rules_in(rule_names.read(rule_names.SOURCE), rule_names.read(rule_names.NUMBERS))
+        self.assertEqual([(rule.variant, rule.name) for rule in code], defined)
 
-    def test_the_order_is_that_of_the_enum(self):
-        rules = rule_names.rules_in(SOURCE)
-        self.assertEqual(rules, {"FirstOne": ("It is first.", "first-one"), "Second": ("It is second.", "second")})
+    def test_the_numbers_are_those_of_the_definitions(self):
+        rules = rule_names.rules_in(SOURCE, NUMBERS)
+        self.assertEqual([(rule.variant, rule.about, rule.name, rule.number) for rule in rules],
+                         [("FirstOne", "It is first.", "first-one", 1), ("Second", "It is second.", "second", 2),
+                          ("Later", "It comes after a gap.", "later", 5)])
         python, rust = rule_names.files(rules).values()
-        self.assertIn('\n    FIRST_ONE = "first-one"\n    SECOND = "second"\n\n', python)
-        self.assertIn("from 1 to 2", python)
-        self.assertIn("{\n    /// It is first.\n    FirstOne,\n    /// It is second.\n    Second,\n}\n", rust)
-        self.assertIn("ALL: [Rule; 2] = [\n        Rule::FirstOne,\n        Rule::Second,\n    ];", rust)
-        self.assertIn('{\n            Rule::FirstOne => "first-one",\n            Rule::Second => "second",\n', rust)
+        self.assertIn('\n    FIRST_ONE = "first-one"\n    SECOND = "second"\n    LATER = "later"\n\n', python)
+        self.assertIn("NUMBERS = (*range(1, 3), 5)\n", python)
+        self.assertIn("number: 1 to 2, or 5.", python)
+        self.assertIn("{\n    /// It is first.\n    FirstOne = 1,\n    /// It is second.\n    Second = 2,\n",
+                      rust)
+        self.assertIn("ALL: [Rule; 3] = [\n        Rule::FirstOne,\n        Rule::Second,\n        Rule::Later,\n",
+                      rust)
+        self.assertIn('{\n            Rule::FirstOne => "first-one",\n            Rule::Second => "second",\n',
+                      rust)
 
 
 if __name__ == "__main__":

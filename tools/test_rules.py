@@ -5,6 +5,8 @@ import os
 import re
 import unittest
 
+import rule_names
+
 TOP = os.path.dirname(os.path.dirname(os.path.abspath(__file__)))
 NAMES = "crates/verdict/src/rule.rt"
 TABLE = "crates/plain_words/src/rules.rt"
@@ -54,9 +56,8 @@ def plain(text):
 
 def numbered(code):
     """The heading of each rule, such as `2 line-again`, by its variant in the enum."""
-    variants = re.findall(r"(?m)^    (\w+),$", code[code.index("pub enum Rule {") :])
-    names = dict(re.findall(r'Rule::(\w+) => "([\w-]+)"', code))
-    return {variant: f"{number} {names.get(variant)}" for number, variant in enumerate(variants, 1)}
+    rules = rule_names.rules_in(code, read(rule_names.NUMBERS))
+    return {rule.variant: f"{rule.number} {rule.name}" for rule in rules}
 
 
 def text_in(string, constant, constants):

@@ -37,7 +37,7 @@ enum tcpwit_kind {
 /* An answer to a case. Numbers that its kind doesn't have are 0. */
 struct tcpwit_result {
     uint32_t kind;         /* one of enum tcpwit_kind */
-    uint32_t rule;         /* a no: the rule that is broken, from 1 to 52, by the numbers of rules.md */
+    uint32_t rule;         /* a no: the rule that is broken, by the numbers of rules.md: 1 to 52, or 56 */
     uint32_t fault;        /* a text that can't be read: one of enum tcpwit_fault */
     uint64_t lines;        /* a yes: how many event lines the trace has */
     uint64_t hidden;       /* a yes: how many steps use no line */
@@ -125,7 +125,7 @@ struct tcpwit_judgement {
     struct tcpwit_text found; /* the case of the last level that was tried */
 };
 
-#define TCPWIT_USUAL_SLACK UINT64_MAX /* the slack of a trace of version 5, else a second */
+#define TCPWIT_USUAL_SLACK UINT64_MAX /* the slack of a trace of version 5 or 6, else a second */
 #define TCPWIT_ANY_SLACK (UINT64_MAX - 1) /* duties aren't judged */
 
 /* Judges a trace, as `tcpwit_lab judge` does. The slack is in microseconds, at most 10^18, or one of those above. */

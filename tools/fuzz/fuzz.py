@@ -96,7 +96,7 @@ def cut(text):
     """The trace and the witness of a case, split where a line begins the witness."""
     lines = text.split(b"\n")
     first = lines[0].removesuffix(b"\r") if len(lines) > 1 else b""
-    version = first[6:] if first in (b"trace 2", b"trace 3", b"trace 4", b"trace 5") else b"1"
+    version = first[6:] if first in (b"trace 2", b"trace 3", b"trace 4", b"trace 5", b"trace 6") else b"1"
     place = 0
     for line in lines[:-1]:
         if line.removesuffix(b"\r") == b"witness " + version:

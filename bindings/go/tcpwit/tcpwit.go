@@ -115,7 +115,7 @@ func CheckTwo(trace, witness []byte) (Verdict, error) {
 	return read(&answer)
 }
 
-// Rule returns the name of the rule with this number, from 1 to 52, or "".
+// Rule returns the name of the rule with this number: 1 to 52, or 56. For another number it returns "".
 func Rule(number uint32) string {
 	var name [32]byte
 	length := C.tcpwit_rule_name(C.uint32_t(number), (*C.char)(unsafe.Pointer(&name[0])), C.size_t(len(name)))
@@ -197,7 +197,7 @@ const (
 
 // A slack is in microseconds, at most 10^18, or one of these.
 const (
-	// UsualSlack is the slack of a trace of version 5, else a second.
+	// UsualSlack is the slack of a trace of version 5 or 6, else a second.
 	UsualSlack = 1<<64 - 1
 	// AnySlack leaves duties unjudged.
 	AnySlack = 1<<64 - 2

@@ -108,8 +108,8 @@ def find(trace: Text, budget: int = USUAL_BUDGET) -> bytes:
 def judge(trace: Text, level: Level = Level.FULL, slack: int = USUAL_SLACK, budget: int = USUAL_BUDGET) -> Judgement:
     """Judges a trace at each level until one has a yes. The judgement is true if `level` or a stricter one has a yes.
 
-    `slack` is in microseconds: how late a host may be with its duties. By default, it is that of a trace of version 5,
-    else a second; ANY_SLACK leaves duties unjudged. `budget` bounds what the search spends on going back.
+    `slack` is in microseconds: how late a host may be with its duties. By default, it is that of a trace of version 5
+    or 6, else a second; ANY_SLACK leaves duties unjudged. `budget` bounds what the search spends on going back.
     """
     text, given = _bytes(trace), library.Judgement()
     status = LIBRARY.tcpwit_judge(text, len(text), slack, budget, ctypes.byref(given))

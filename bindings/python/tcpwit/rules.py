@@ -3,6 +3,9 @@ from __future__ import annotations
 
 import enum
 
+# The numbers of the rules, in their order.
+NUMBERS = (*range(1, 53), 56)
+
 
 class Rule(enum.Enum):
     """A rule that a no names; the value is its name. docs/reference/rules.md explains them."""
@@ -59,8 +62,9 @@ class Rule(enum.Enum):
     RESENT = "resent"
     RESENT_BEYOND = "resent-beyond"
     ACK_EXCESS = "ack-excess"
+    SAMPLE_DUE = "sample-due"
 
     @property
     def number(self) -> int:
-        """The rule's number, from 1 to 52."""
-        return list(Rule).index(self) + 1
+        """The rule's number: 1 to 52, or 56."""
+        return NUMBERS[list(Rule).index(self)]

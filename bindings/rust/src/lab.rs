@@ -112,7 +112,7 @@ pub fn find(trace: &[u8], budget: u64) -> Result<Said, LabError> {
 /// How late a host may be with its duties.
 #[derive(Clone, Copy, Debug, PartialEq, Eq)]
 pub enum Slack {
-    /// As a trace of version 5 says, else a second.
+    /// As a trace of version 5 or 6 says, else a second.
     Usual,
     /// So many microseconds, at most 10^18.
     Micros(u64),

@@ -6,114 +6,116 @@ use core::fmt;
 #[derive(Clone, Copy, Debug, PartialEq, Eq, Hash)]
 pub enum Rule {
     /// L names no event line, or names an unplaced line with another count of extra numbers than its kind needs.
-    LineRange,
+    LineRange = 1,
     /// That line was placed before.
-    LineAgain,
+    LineAgain = 2,
     /// An earlier line of its thread is not placed.
-    ThreadOrder,
+    ThreadOrder = 3,
     /// The step's moment is before that of the step before.
-    MomentFalls,
+    MomentFalls = 4,
     /// The step's moment is before the line's, or after it by more than the skew.
-    MomentOff,
+    MomentOff = 5,
     /// Some line that is not placed may no longer wait.
-    Overdue,
+    Overdue = 6,
     /// The line begins a call, but the thread has an open call.
-    ThreadBusy,
+    ThreadBusy = 7,
     /// An effect or the end of a call, but the thread has no open call.
-    NoCall,
+    NoCall = 8,
     /// An effect, but the open call already had its effect.
-    DoneTwice,
+    DoneTwice = 9,
     /// The end of a call that had no effect yet, or had another answer.
-    AnswerDiffers,
+    AnswerDiffers = 10,
     /// An effect returns a socket number that was returned before.
-    Socket,
+    Socket = 11,
     /// An effect with an answer that the call may not have.
-    CallAnswer,
+    CallAnswer = 12,
     /// No endpoint exists at these ports, or it is closed.
-    NoEndpoint,
+    NoEndpoint = 13,
     /// The endpoint's state allows no segment of that kind.
-    State,
+    State = 14,
     /// The initial send sequence number is missing, was given before, or is given without a SYN.
-    Iss,
+    Iss = 15,
     /// The segment on the wire is not the one that was built.
-    BytesDiffer,
+    BytesDiffer = 16,
     /// No such segment was built, or it was already sent.
-    NotMade,
+    NotMade = 17,
     /// The segment's bytes are not among those accepted, or its FIN is not at the end of them.
-    PayloadRange,
+    PayloadRange = 18,
     /// An acknowledgment before the peer's SYN was received, or no acknowledgment after it.
-    AckField,
+    AckField = 19,
     /// A segment with old data at a place where nothing may be retransmitted.
-    OldData,
+    OldData = 20,
     /// New data ends beyond the offered window (RFC 9293, 3.8.6).
-    Offered,
+    Offered = 21,
     /// New data ends beyond the congestion window (RFC 5681, 3.1).
-    Congestion,
+    Congestion = 22,
     /// The segment holds more data than the sender's maximum segment size.
-    Size,
+    Size = 23,
     /// What arrives is not a segment that the other host sent.
-    NoEmission,
+    NoEmission = 24,
     /// What arrives has other bytes than the segment that it copies.
-    CopyDiffers,
+    CopyDiffers = 25,
     /// The segment is older than the maximum segment lifetime.
-    Lifetime,
+    Lifetime = 26,
     /// The segment isn't waiting in the host's inbox.
-    Inbox,
+    Inbox = 27,
     /// The segment was built by another endpoint than this endpoint's peer.
-    NotPeer,
+    NotPeer = 28,
     /// A sequence or acknowledgment number does not read back to its position.
-    Number,
+    Number = 29,
     /// The segment is not acceptable (RFC 9293, 3.4).
-    Unacceptable,
+    Unacceptable = 30,
     /// The acknowledgment is missing or out of range.
-    AckRange,
+    AckRange = 31,
     /// The child would join a full listen queue.
-    QueueFull,
+    QueueFull = 32,
     /// The congestion window or the slow start threshold is above the greatest value allowed.
-    Growth,
+    Growth = 33,
     /// A round trip time is measured when it may not be (RFC 6298, 3).
-    Sample,
+    Sample = 34,
     /// The timer is not armed, or what it waits for doesn't exist.
-    TimerOff,
+    TimerOff = 35,
     /// The timer expires before it may.
-    TimerEarly,
+    TimerEarly = 36,
     /// Fast recovery may not be entered (RFC 5681, 3.2).
-    Recovery,
+    Recovery = 37,
     /// A segment's window would be read with another shift than its sender's.
-    ScaleUnread,
+    ScaleUnread = 38,
     /// A line is not placed after the last step.
-    Unplaced,
+    Unplaced = 39,
     /// A segment is dropped that the host has to process or answer (RFC 9293, 3.10.7).
-    Dropped,
+    Dropped = 40,
     /// What is next in order is received but not kept (RFC 9293, 3.10.7.4).
-    Discarded,
+    Discarded = 41,
     /// A segment waits too long in the inbox (RFC 9293, 3.10.7).
-    ProcessLate,
+    ProcessLate = 42,
     /// A segment is sent too long after it was built (RFC 9293, 3.10.2 and 3.10.7).
-    SendLate,
+    SendLate = 43,
     /// An acknowledgment is late (RFC 9293, 3.8.6.3; RFC 5681, 4.2).
-    AckLate,
+    AckLate = 44,
     /// The retransmission timer expires late (RFC 6298, 5.1 to 5.3).
-    ExpiryLate,
+    ExpiryLate = 45,
     /// The retransmission after an expiry is late (RFC 6298, 5.4).
-    ResendLate,
+    ResendLate = 46,
     /// A probe of a closed window is late (RFC 9293, 3.8.6.1).
-    ProbeLate,
+    ProbeLate = 47,
     /// What may be sent is sent late (RFC 9293, 3.8.6.2.1, 3.10.2 and 3.10.4).
-    StartLate,
+    StartLate = 48,
     /// The reset of an aborted connection is late (RFC 9293, 3.10.5).
-    ResetLate,
+    ResetLate = 49,
     /// A position is retransmitted twice after one expiry (RFC 6298, 5.4; RFC 5681, 3.2).
-    Resent,
+    Resent = 50,
     /// A retransmission ends beyond the congestion window (RFC 5681, 3.1).
-    ResentBeyond,
+    ResentBeyond = 51,
     /// There are more acknowledgments than received segments (RFC 5681, 4.2).
-    AckExcess,
+    AckExcess = 52,
+    /// A round trip isn't measured, though none was since this data was sent (RFC 6298, 3).
+    SampleDue = 56,
 }
 
 impl Rule {
     /// All rules, in the order of their numbers.
-    pub const ALL: [Rule; 52] = [
+    pub const ALL: [Rule; 53] = [
         Rule::LineRange,
         Rule::LineAgain,
         Rule::ThreadOrder,
@@ -166,16 +168,17 @@ impl Rule {
         Rule::Resent,
         Rule::ResentBeyond,
         Rule::AckExcess,
+        Rule::SampleDue,
     ];
 
-    /// The rule with this number, from 1 to 52.
+    /// The rule with this number: 1 to 52, or 56.
     pub fn numbered(number: u32) -> Option<Rule> {
-        Self::ALL.get((number as usize).checked_sub(1)?).copied()
+        Self::ALL.into_iter().find(|rule| rule.number() == number)
     }
 
-    /// Its number, from 1 to 52.
+    /// Its number: 1 to 52, or 56.
     pub fn number(self) -> u32 {
-        self as u32 + 1
+        self as u32
     }
 
     /// The name under which `tcpwit check` prints it.
@@ -233,6 +236,7 @@ impl Rule {
             Rule::Resent => "resent",
             Rule::ResentBeyond => "resent-beyond",
             Rule::AckExcess => "ack-excess",
+            Rule::SampleDue => "sample-due",
         }
     }
 }

@@ -7,11 +7,11 @@ use Rattle.std.proofs.lemmas.Bool.{false_from_ne_true}
 use Rattle.std.proofs.lemmas.Slice.Eq.{bytes_eq-Decides}
 use Rattle.bstr.specs.Text.{lines_of, without_terminator}
 use Rattle.case_forms.specs.declared.version.Version.{Version}
-use Rattle.case_forms.specs.declared.version.Version.TheVariants.{One, Two, Three, Four, FourHalf, Five, FiveHalf}
+use Rattle.case_forms.specs.declared.version.Version.TheVariants.{One, Two, Three, Four, FourHalf, Five, FiveHalf, Six, SixHalf}
 use Rattle.case_forms.specs.declared.trace.Header.{Header}
 use Rattle.case_forms.specs.declared.trace.Trace.{Trace}
 use Rattle.case_forms.specs.declared.steps.Witness.{Witness}
-use Rattle.case_forms.specs.Versions.{says_slack}
+use Rattle.case_forms.specs.Versions.{says_sender, says_slack}
 use Rattle.line_fields.specs.declared.fault.FaultKind.TheVariants.{LineTooLong}
 use Rattle.line_fields.specs.declared.fault.TextFault.{TextFault}
 use Rattle.line_fields.specs.Folding.{read_lines}
@@ -22,7 +22,7 @@ use Rattle.case_lines.specs.CaseLines.{before_witness, behind_witness}
 use Rattle.case_lines.specs.FirstLine.{first_words, version_named}
 use Rattle.case_lines.proofs.CaseLinesLaw.{and_both, short}
 use Rattle.trace_reader.specs.EventLines.{line_of}
-use Rattle.trace_reader.specs.Headers.{first_line, first_version, header_of, judged_lines, last_line, late_lines}
+use Rattle.trace_reader.specs.Headers.{both_lines, control_lines, first_line, first_version, header_of, judged_lines, last_line, late_lines}
 use Rattle.trace_reader.specs.Headers.{named_rest, next_value, value_line}
 use Rattle.trace_reader.specs.TraceText.{events_of, trace_in, trace_of}
 use Rattle.witness.specs.FirstLine.{begins_witness, first_text}
@@ -74,7 +74,8 @@ names_one size raw rest long =
     let three = not_wanted size raw (joined (first_words Three)) long refl in
     let four = not_wanted size raw (joined (first_words Four)) long refl in
     let five = not_wanted size raw (joined (first_words Five)) long refl in
-    rw (two, three, four, five) refl
+    let six = not_wanted size raw (joined (first_words Six)) long refl in
+    rw (two, three, four, five, six) refl
 
 -- ---- lines that are read up to the line that is too long
 
@@ -142,12 +143,23 @@ module _ (size : ℕ) (one two : List ℕ) (is_one : IsTooLong size one) (is_two
       by true is = rw is (near_value _ _ _ raws others split)
       by false is = rw is (refl, split)
 
+  near_control : (v : Version) (raws others : Rows) → Split raws others → Near (control_lines v raws) (control_lines v others)
+  unfolding both_lines
+  near_control v raws others split = by (says_sender v) refl
+    where
+      by : (b : Bool) → says_sender v ≡ b → Near (control_lines v raws) (control_lines v others)
+      by true is =
+          rw is (near_then _ _ _ (near_value _ _ _ raws others split) (λ sender r1 o1 s1.
+          near_then _ _ _ (near_value _ _ _ r1 o1 s1) (λ growth r2 o2 s2. (refl, s2))))
+      by false is = rw is (refl, split)
+
   near_judged : (v : Version) (raws others : Rows) → Split raws others → Near (judged_lines v raws) (judged_lines v others)
   near_judged v raws others split =
       near_then _ _ _ (near_value _ _ _ raws others split) (λ initial r1 o1 s1.
       near_then _ _ _ (near_value _ _ _ r1 o1 s1) (λ hosts r2 o2 s2.
       near_then _ _ _ (near_value _ _ _ r2 o2 s2) (λ congestion r3 o3 s3.
-      near_then _ _ _ (near_last v r3 o3 s3) (λ slack r4 o4 s4. (refl, s4)))))
+      near_then _ _ _ (near_last v r3 o3 s3) (λ slack r4 o4 s4.
+      near_then _ _ _ (near_control v r4 o4 s4) (λ control r5 o5 s5. (refl, s5))))))
 
   near_late : (v : Version) (raws others : Rows) → Split raws others → Near (late_lines v raws) (late_lines v others)
   near_late One raws others split = (refl, split)
@@ -159,6 +171,8 @@ module _ (size : ℕ) (one two : List ℕ) (is_one : IsTooLong size one) (is_two
   near_late FourHalf raws others split = near_judged FourHalf raws others split
   near_late Five raws others split = near_judged Five raws others split
   near_late FiveHalf raws others split = near_judged FiveHalf raws others split
+  near_late Six raws others split = near_judged Six raws others split
+  near_late SixHalf raws others split = near_judged SixHalf raws others split
 
   near_header : (raws others : Rows) → Split raws others → Near (header_of raws) (header_of others)
   unfolding header_of

@@ -15,7 +15,7 @@ use verdict::{Rule, Verdict};
 pub struct Answer {
     /// 0: yes; 1: no; 2: the trace can't be read; 3: the witness can't be read; 4: memory ran out.
     pub kind: u32,
-    /// A no: the number of the rule that is broken, from 1 to 52.
+    /// A no: the number of the rule that is broken: 1 to 52, or 56.
     pub rule: u32,
     /// A text that can't be read: the number of the fault, from 1.
     pub fault: u32,
@@ -97,11 +97,14 @@ fn fault_answer(kind: u32, fault: TextFault) -> Answer
     }
 }
 
-// The number of a rule.
+// The number of a rule: they follow one another, but for the last one.
 fn number_of(rule: Rule) -> u32
     ensures { result ≡ rule_number rule }
 {
-    rule as u32 + 1
+    match rule {
+        Rule::SampleDue => 56,
+        _ => rule as u32 + 1,
+    }
 }
 
 // The number of a fault's kind.

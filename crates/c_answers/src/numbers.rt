@@ -1,6 +1,6 @@
 //! The result whose numbers an answer has.
 
-ghost use Rattle.std.specs.Prelude.{◌≡◌, ◌<◌, ◌⊎◌, ℕ, IfSome, None, Result, Some};
+ghost use Rattle.std.specs.Prelude.{◌≡◌, ◌≢◌, ◌<◌, ◌⊎◌, ℕ, IfSome, None, Result, Some};
 ghost use Rattle.verdict.specs.declared.rule.Rule.{Rule};
 ghost use Rattle.verdict.specs.declared.report.Verdict.{Verdict};
 ghost use Rattle.line_fields.specs.declared.fault.FaultKind.{FaultKind};
@@ -68,7 +68,7 @@ fn fault_of(answer: &Answer) -> Option<TextFault>
 /// The rule with this number. None: no rule has it.
 pub(crate) fn rule_numbered(number: u32) -> Option<Rule>
     ensures found { (rule : Rule) → number ≡ rule_number rule → result ≡ Some rule }
-    ensures none { (number ≡ 0) ⊎ (52 < number) → result ≡ None }
+    ensures none { (number ≡ 0) ⊎ ((52 < number) × (number ≢ 56)) → result ≡ None }
 {
     Some(match number {
         1 => Rule::LineRange,
@@ -123,6 +123,7 @@ pub(crate) fn rule_numbered(number: u32) -> Option<Rule>
         50 => Rule::Resent,
         51 => Rule::ResentBeyond,
         52 => Rule::AckExcess,
+        56 => Rule::SampleDue,
         _ => return None,
     })
 }

@@ -8,7 +8,7 @@ use Rattle.case_forms.specs.declared.taken_line.Expired.TheVariants as expired
 use Rattle.case_forms.specs.declared.taken_line.TakenLine.{TakenLine}
 use Rattle.case_forms.specs.declared.taken_line.TakenLine.TheVariants as taken
 use Rattle.case_forms.specs.declared.timer.Timer.{Timer}
-use Rattle.case_forms.specs.declared.timer.Timer.TheVariants.{Rto, Persist, Msl2, Giveup}
+use Rattle.case_forms.specs.declared.timer.Timer.TheVariants.{Rto, Persist, Msl2, Giveup, Pto}
 use Rattle.case_forms.specs.declared.trace.Event.{Event}
 use Rattle.case_forms.specs.declared.trace.Event.TheVariants.{CallBegin, CallEnd, Sent, Came, Expired as TimerExpired}
 use Rattle.case_forms.specs.declared.trace.Line.{Line}
@@ -19,6 +19,7 @@ expired_by Rto (Two cwnd ssthresh) = Some (expired.Rto (record { cwnd = cwnd; ss
 expired_by Persist Bare = Some expired.Persist
 expired_by Msl2 Bare = Some expired.Msl2
 expired_by Giveup Bare = Some expired.Giveup
+expired_by Pto Bare = Some expired.Pto
 expired_by timer extras = None
 
 -- the timer that expired
@@ -27,6 +28,7 @@ timer_of (expired.Rto growth) = Rto
 timer_of expired.Persist = Persist
 timer_of expired.Msl2 = Msl2
 timer_of expired.Giveup = Giveup
+timer_of expired.Pto = Pto
 
 -- a segment's line has the number that it was built under, or the line that it copies; a call's has none, nor has the
 -- line of a segment from a host that is not recorded

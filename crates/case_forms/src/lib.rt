@@ -30,6 +30,6 @@ pub use named_line::{Extras, NamedLine};
 pub use segment::OutOfMemory;
 pub use steps::{Flags, Label, SegmentPlan, Step, Steps, TakeChoice, Takes, Witness};
 pub use taken_line::{Expired, TakenLine};
-pub use timer::{Expiry, Recovery, RtoChoice, Timer};
+pub use timer::{Expiry, Recovery, RecoveryChange, RtoChoice, Timer};
 pub use trace::{Event, Header, Line, Lines, Span, Trace, Wire};
-pub use version::{Initial, Judged, Version};
+pub use version::{Growth, Initial, Judged, Sender, Version};

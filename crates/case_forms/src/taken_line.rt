@@ -18,6 +18,7 @@ pub enum Expired {
     Persist,
     Msl2,
     Giveup,
+    Pto,
 }
 
 impl Expired {
@@ -30,6 +31,7 @@ impl Expired {
             Expired::Persist => Timer::Persist,
             Expired::Msl2 => Timer::Msl2,
             Expired::Giveup => Timer::Giveup,
+            Expired::Pto => Timer::Pto,
         }
     }
 }
@@ -150,6 +152,7 @@ fn expired_by(timer: Timer, extras: Extras) -> Option<Expired>
         (Timer::Persist, Extras::Bare) => Some(Expired::Persist),
         (Timer::Msl2, Extras::Bare) => Some(Expired::Msl2),
         (Timer::Giveup, Extras::Bare) => Some(Expired::Giveup),
+        (Timer::Pto, Extras::Bare) => Some(Expired::Pto),
         _ => None,
     }
 }

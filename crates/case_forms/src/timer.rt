@@ -11,6 +11,8 @@ pub enum Timer {
     Msl2,
     /// `giveup`: the endpoint retransmitted often enough, or waited long enough, to give up (RFC 9293, 3.8.3).
     Giveup,
+    /// `pto`: it is time to probe for a loss at the end of a flight (RFC 8985, 7.2); from version 6 on.
+    Pto,
 }
 
 /// A timer that expires, of the endpoint at these ports.
@@ -28,10 +30,20 @@ pub struct RtoChoice {
     pub ssthresh: u32,
 }
 
-/// Fast recovery of the endpoint at these ports, with the chosen congestion window and slow start threshold, both in
-/// bytes (RFC 5681, 3.2).
+/// What becomes of a recovery.
+#[derive(Clone, Copy, PartialEq, Eq)]
+pub enum RecoveryChange {
+    /// Fast recovery begins (RFC 5681, 3.2).
+    Begins,
+    /// It was spurious, and is undone (RFC 4015, 3.2); from version 6 on.
+    IsUndone,
+}
+
+/// A recovery of the endpoint at these ports begins or is undone, with the chosen congestion window and slow start
+/// threshold, both in bytes.
 #[derive(Clone, Copy)]
 pub struct Recovery {
+    pub change: RecoveryChange,
     pub lport: u16,
     pub rport: u16,
     pub cwnd: u32,

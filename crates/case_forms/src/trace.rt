@@ -7,7 +7,7 @@ ghost use Rattle.case_forms.specs.Traces.{first_event_line};
 use crate::OutOfMemory;
 use crate::calls::{Answer, Call, Host};
 use crate::timer::Timer;
-use crate::version::{Initial, Judged, Version};
+use crate::version::{Growth, Initial, Judged, Sender, Version};
 use segment::{Bytes, Segment};
 use std::alloc::Global;
 use std::marker::Model;
@@ -41,6 +41,11 @@ pub struct Header {
     /// How late a host may be with what it must do, 0 to 10^18; `None` (`any`) if that isn't judged. Versions 1 to 4,
     /// whose texts don't state it, have `None`.
     pub slack: Option<u64>,
+    /// Which RFC describes the sender's congestion control; `Reno` in versions 1 to 5, whose texts don't state it.
+    pub sender: Sender,
+    /// What a sender may add to its congestion window in slow start; `OneSegment` in versions 1 to 5, whose texts don't
+    /// state it.
+    pub growth: Growth,
 }
 
 impl Header {

@@ -1,7 +1,7 @@
 //! The versions of a trace and its witness.
 
 ghost use Rattle.std.specs.Prelude.{◌≡◌};
-ghost use Rattle.case_forms.specs.Versions.{first_line_of, is_half, says_slack, scales};
+ghost use Rattle.case_forms.specs.Versions.{first_line_of, is_half, says_sender, says_slack, scales};
 
 /// The version of a text. A trace and its witness have the same version.
 #[derive(Clone, Copy, Debug, PartialEq, Eq)]
@@ -20,6 +20,10 @@ pub enum Version {
     Five,
     /// The same for a half case. Its texts have version 5.
     FiveHalf,
+    /// Like version 5, with stronger duties, and the trace names the sender's congestion control.
+    Six,
+    /// The same for a half case. Its texts have version 6.
+    SixHalf,
 }
 
 impl Version {
@@ -33,6 +37,7 @@ impl Version {
             Version::Three => 9,
             Version::Four | Version::FourHalf => 10,
             Version::Five | Version::FiveHalf => 11,
+            Version::Six | Version::SixHalf => 13,
         }
     }
 
@@ -47,7 +52,9 @@ impl Version {
             | Version::Four
             | Version::FourHalf
             | Version::Five
-            | Version::FiveHalf => true,
+            | Version::FiveHalf
+            | Version::Six
+            | Version::SixHalf => true,
         }
     }
 
@@ -56,8 +63,8 @@ impl Version {
         ensures { result ≡ is_half self }
     {
         match self {
-            Version::One | Version::Two | Version::Four | Version::Five => false,
-            Version::Three | Version::FourHalf | Version::FiveHalf => true,
+            Version::One | Version::Two | Version::Four | Version::Five | Version::Six => false,
+            Version::Three | Version::FourHalf | Version::FiveHalf | Version::SixHalf => true,
         }
     }
 
@@ -69,7 +76,23 @@ impl Version {
             Version::One | Version::Two | Version::Three | Version::Four | Version::FourHalf => {
                 false
             }
-            Version::Five | Version::FiveHalf => true,
+            Version::Five | Version::FiveHalf | Version::Six | Version::SixHalf => true,
+        }
+    }
+
+    /// Whether the header names the sender's congestion control, and duties are the stronger ones of version 6.
+    pub fn says_sender(self) -> bool
+        ensures { result ≡ says_sender self }
+    {
+        match self {
+            Version::One
+            | Version::Two
+            | Version::Three
+            | Version::Four
+            | Version::FourHalf
+            | Version::Five
+            | Version::FiveHalf => false,
+            Version::Six | Version::SixHalf => true,
         }
     }
 }
@@ -94,4 +117,25 @@ pub enum Judged {
     Recovery,
     /// No part of congestion control.
     NoControl,
+}
+
+/// Which RFC describes the sender's congestion control.
+#[derive(Clone, Copy)]
+pub enum Sender {
+    /// Reno or NewReno (RFC 5681, RFC 6582).
+    Reno,
+    /// CUBIC (RFC 9438).
+    Cubic,
+}
+
+/// What a sender may add to its congestion window in slow start, at an acknowledgment of new data. SMSS is the size of
+/// a full segment.
+#[derive(Clone, Copy)]
+pub enum Growth {
+    /// SMSS (RFC 5681, 3.1).
+    OneSegment,
+    /// SMSS, or what is acknowledged, up to 2 SMSS (RFC 3465, 2.3).
+    TwoSegments,
+    /// SMSS, or what is acknowledged (RFC 9406, 4.2).
+    Any,
 }

@@ -7,7 +7,7 @@ use Rattle.std.specs.Str.{bytes_eq}
 use Rattle.std.proofs.lemmas.Slice.Eq.{bytes_eq-Decides}
 use Rattle.bstr.specs.Text.{without_terminator}
 use Rattle.case_forms.specs.declared.version.Version.{Version}
-use Rattle.case_forms.specs.declared.version.Version.TheVariants.{One, Two, Three, Four, FourHalf, Five, FiveHalf}
+use Rattle.case_forms.specs.declared.version.Version.TheVariants.{One, Two, Three, Four, FourHalf, Five, FiveHalf, Six, SixHalf}
 use Rattle.line_fields.specs.declared.fault.FaultKind.{FaultKind}
 use Rattle.line_fields.specs.declared.fault.FaultKind.TheVariants.{LineTooLong, TooManyLines, OutOfMemory}
 use Rattle.line_fields.specs.declared.fault.TextFault.{TextFault}
@@ -54,6 +54,8 @@ short Four = refl
 short FourHalf = refl
 short Five = refl
 short FiveHalf = refl
+short Six = refl
+short SixHalf = refl
 
 -- a line that begins a witness isn't too long
 begins_short : (v : Version) (number : ℕ) (raw : List ℕ) (e : TextFault) → begins_witness v raw ≡ true

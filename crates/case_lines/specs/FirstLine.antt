@@ -4,6 +4,7 @@ use Rattle.std.specs.Str.{bytes_eq}
 use Rattle.bstr.specs.Text.{without_terminator}
 use Rattle.case_forms.specs.declared.version.Version.{Version}
 use Rattle.case_forms.specs.declared.version.Version.TheVariants.{One, Two, Three, Four, FourHalf, Five, FiveHalf}
+use Rattle.case_forms.specs.declared.version.Version.TheVariants.{Six, SixHalf}
 use Rattle.line_fields.specs.Lines.{is_ended}
 use Rattle.line_fields.specs.Spelling.{joined}
 
@@ -16,6 +17,8 @@ version_text Four = codes "4"
 version_text FourHalf = codes "4"
 version_text Five = codes "5"
 version_text FiveHalf = codes "5"
+version_text Six = codes "6"
+version_text SixHalf = codes "6"
 
 -- the fields of the first line
 abbrev pub first_words : Version → List (List ℕ)
@@ -33,4 +36,5 @@ version_named (raw ∷ raws) =
     else if begins_trace Three raw then Three
     else if begins_trace Four raw then Four
     else if begins_trace Five raw then Five
+    else if begins_trace Six raw then Six
     else One

@@ -19,6 +19,7 @@ pub fn first_text(version: Version) -> &'static str
         Version::Three => "trace 3",
         Version::Four | Version::FourHalf => "trace 4",
         Version::Five | Version::FiveHalf => "trace 5",
+        Version::Six | Version::SixHalf => "trace 6",
     }
 }
 
@@ -39,12 +40,13 @@ pub(crate) fn version_of_line(raw: &[u8]) -> Version
         raw if begins_trace(Version::Three, raw) => Version::Three,
         raw if begins_trace(Version::Four, raw) => Version::Four,
         raw if begins_trace(Version::Five, raw) => Version::Five,
+        raw if begins_trace(Version::Six, raw) => Version::Six,
         _ => Version::One,
     }
 }
 
 /// The version in the first line of a text, if this line has an end; version 1 if it names none. A trace of version 4
-/// or 5 counts as one of two hosts here, since only its line 8 says how many were recorded.
+/// to 6 counts as one of two hosts here, since only its line 8 says how many were recorded.
 pub fn version_named(text: &[u8]) -> Version
     ensures { result ≡ version_named (lines_of text.now) }
 {

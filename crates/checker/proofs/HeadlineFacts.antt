@@ -1,6 +1,8 @@
 -- What the definitions say of a few steps.
 use Rattle.std.specs.Prelude.{◌≡◌, ℕ, true, false, List, [], ◌∷◌, None}
 use Rattle.std.proofs.Common.{refl}
+use Rattle.case_forms.specs.declared.version.Growth.TheVariants.{OneSegment}
+use Rattle.case_forms.specs.declared.version.Sender.TheVariants.{Reno}
 use Rattle.case_forms.specs.declared.calls.Call.TheVariants as calls
 use Rattle.case_forms.specs.declared.calls.Answer.TheVariants as answers
 use Rattle.case_forms.specs.declared.trace.Event.TheVariants as events
@@ -17,7 +19,19 @@ use Rattle.checker.specs.Headline.{told, accepted, told_end, ended}
 -- thread 1 receives on 5, thread 2 sends on 6, then 1 receives again and 2 shuts
 abbrev facts_trace : Trace
 facts_trace = record {
-  header = record { version = One; skew = 0; msl = 120000000; grain = 1000; minrto = 1000000; extra = 0; initial = Rfc5681; congestion = Full; slack = None };
+  header = record {
+    version = One;
+    skew = 0;
+    msl = 120000000;
+    grain = 1000;
+    minrto = 1000000;
+    extra = 0;
+    initial = Rfc5681;
+    congestion = Full;
+    slack = None;
+    sender = Reno;
+    growth = OneSegment;
+  };
   lines =
       record { number = 7; moment = 10; thread = 1; event = events.CallBegin (calls.Recv 5 9); span = nowhere }
       ∷ record { number = 8; moment = 10; thread = 2; event = events.CallBegin (calls.Send 6 (1 ∷ 2 ∷ 3 ∷ [])); span = nowhere }

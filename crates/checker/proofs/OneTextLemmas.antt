@@ -211,6 +211,8 @@ first_named versions.Four = refl
 first_named versions.FourHalf = refl
 first_named versions.Five = refl
 first_named versions.FiveHalf = refl
+first_named versions.Six = refl
+first_named versions.SixHalf = refl
 
 text_taken : (text wanted : List ℕ) (ended : Bool) → text ≡ wanted → ended ≡ true → nat_lt 140000 (length wanted) ≡ false
     → text_in 1 text ended ≡ Ok wanted

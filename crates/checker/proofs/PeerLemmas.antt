@@ -14,7 +14,7 @@ use Rattle.case_forms.specs.declared.calls.State.TheVariants as states
 use Rattle.case_forms.specs.Versions.{is_half}
 use Rattle.case_forms.specs.declared.version.Version.{Version}
 use Rattle.case_forms.specs.declared.taken_line.Expired.{Expired}
-use Rattle.case_forms.specs.declared.taken_line.Expired.TheVariants.{Giveup, Msl2, Persist, Rto}
+use Rattle.case_forms.specs.declared.taken_line.Expired.TheVariants.{Giveup, Msl2, Persist, Pto, Rto}
 use Rattle.verdict.specs.declared.rule.Rule.TheVariants as rules
 use Rattle.verdict.specs.Rules.{first_broken}
 use Rattle.verdict.proofs.RuleLemmas.{none_all}
@@ -119,6 +119,7 @@ expiry_stream (Rto growth) e s = refl
 expiry_stream Persist e s = refl
 expiry_stream Msl2 e s = refl
 expiry_stream Giveup e s = refl
+expiry_stream Pto e s = refl
 
 syn_or_reset : (syn rst : Bool) → (syn || rst) ≡ true → rst ≡ false → syn ≡ true
 syn_or_reset true rst either not_reset = refl

@@ -16,7 +16,7 @@ use Rattle.case_forms.specs.declared.calls.State.TheVariants as states
 use Rattle.case_forms.specs.declared.steps.SegmentPlan.{SegmentPlan}
 use Rattle.case_forms.specs.declared.steps.TakeChoice.{TakeChoice}
 use Rattle.case_forms.specs.declared.taken_line.Expired.{Expired}
-use Rattle.case_forms.specs.declared.taken_line.Expired.TheVariants.{Giveup, Msl2, Persist, Rto}
+use Rattle.case_forms.specs.declared.taken_line.Expired.TheVariants.{Giveup, Msl2, Persist, Pto, Rto}
 use Rattle.case_forms.specs.declared.trace.Header.{Header}
 use Rattle.verdict.specs.Rules.{first_broken}
 use Rattle.verdict.specs.declared.rule.Rule.TheVariants as rules
@@ -250,6 +250,7 @@ expiry_end e (Rto growth) s = plain_end e (after_expiry e (Rto growth) s) refl r
 expiry_end e Persist s = plain_end e (after_expiry e Persist s) refl refl refl
 expiry_end e Msl2 s = plain_end e (after_expiry e Msl2 s) refl refl refl
 expiry_end e Giveup s = plain_end e (after_expiry e Giveup s) refl refl refl
+expiry_end e Pto s = plain_end e (after_expiry e Pto s) refl refl refl
 
 making_end : (e : Endpoint) (m : SegmentPlan) (s : ℕ) → SameEnd e (after_making e m s)
 making_end e m s =

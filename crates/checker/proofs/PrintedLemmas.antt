@@ -24,6 +24,8 @@ use Rattle.case_forms.specs.declared.version.Version.{Version}
 use Rattle.case_forms.specs.declared.version.Version.TheVariants as versions
 use Rattle.case_forms.specs.declared.version.Initial.{Initial}
 use Rattle.case_forms.specs.declared.version.Judged.{Judged}
+use Rattle.case_forms.specs.declared.version.Growth.{Growth}
+use Rattle.case_forms.specs.declared.version.Sender.{Sender}
 use Rattle.case_forms.specs.Versions.{named_as}
 use Rattle.line_fields.specs.Lines.{IsRaw, IsLine}
 use Rattle.line_fields.specs.Folding.{AreSpelled}
@@ -34,7 +36,7 @@ use Rattle.line_fields.proofs.Loop.{spelled_raws}
 use Rattle.line_fields.proofs.Texts.{lines_of-concat}
 use Rattle.line_fields.proofs.Written.{first_plain, written_clean}
 use Rattle.case_lines.specs.FirstLine.{first_words}
-use Rattle.trace_reader.specs.Headers.{AreLines, slack_words, late_words, header_words}
+use Rattle.trace_reader.specs.Headers.{AreLines, slack_words, sender_words, growth_words, late, late_words, header_words}
 use Rattle.trace_reader.specs.Events.{event_pieces}
 use Rattle.trace_reader.specs.EventLines.{Place, behind, line_pieces, IsEventLine}
 use Rattle.trace_reader.specs.TraceText.{first_place, IsTraceText, trace_of}
@@ -83,6 +85,8 @@ first_letter versions.Four = refl
 first_letter versions.FourHalf = refl
 first_letter versions.Five = refl
 first_letter versions.FiveHalf = refl
+first_letter versions.Six = refl
+first_letter versions.SixHalf = refl
 
 not_first : (v : Version) (n : ℕ) (ws : List (List ℕ)) (raw : List ℕ) → AllByRecursion IsClean ws → IsOther ws
     → IsLine n (joined ws) raw → begins_witness v raw ≡ false
@@ -104,20 +108,42 @@ version_other versions.Four = (omega arith, λ e. omega arith)
 version_other versions.FourHalf = (omega arith, λ e. omega arith)
 version_other versions.Five = (omega arith, λ e. omega arith)
 version_other versions.FiveHalf = (omega arith, λ e. omega arith)
+version_other versions.Six = (omega arith, λ e. omega arith)
+version_other versions.SixHalf = (omega arith, λ e. omega arith)
 
 slack_other : (slack : Option ℕ) → IsOther (slack_words slack)
 slack_other slack = (omega arith, λ e. omega arith)
 
-late_others : (v : Version) (i : Initial) (j : Judged) (o : Option ℕ) → AllByRecursion IsOther (late_words v i j o)
-late_others versions.One i j o = tt
-late_others versions.Two i j o = ((omega arith, λ e. omega arith), tt)
-late_others versions.Three i j o = ((omega arith, λ e. omega arith), ((omega arith, λ e. omega arith), tt))
-late_others versions.Four i j o = ((omega arith, λ e. omega arith), ((omega arith, λ e. omega arith), ((omega arith, λ e. omega arith), tt)))
-late_others versions.FourHalf i j o = ((omega arith, λ e. omega arith), ((omega arith, λ e. omega arith), ((omega arith, λ e. omega arith), tt)))
-late_others versions.Five i j o =
+sender_other : (s : Sender) → IsOther (sender_words s)
+sender_other s = (omega arith, λ e. omega arith)
+
+growth_other : (g : Growth) → IsOther (growth_words g)
+growth_other g = (omega arith, λ e. omega arith)
+
+late_others : (v : Version) (i : Initial) (j : Judged) (o : Option ℕ) (s : Sender) (g : Growth) → AllByRecursion IsOther (late_words (late v i j o s g))
+late_others versions.One i j o s g = tt
+late_others versions.Two i j o s g = ((omega arith, λ e. omega arith), tt)
+late_others versions.Three i j o s g = ((omega arith, λ e. omega arith), ((omega arith, λ e. omega arith), tt))
+late_others versions.Four i j o s g = ((omega arith, λ e. omega arith), ((omega arith, λ e. omega arith), ((omega arith, λ e. omega arith), tt)))
+late_others versions.FourHalf i j o s g = ((omega arith, λ e. omega arith), ((omega arith, λ e. omega arith), ((omega arith, λ e. omega arith), tt)))
+late_others versions.Five i j o s g =
     ((omega arith, λ e. omega arith), ((omega arith, λ e. omega arith), ((omega arith, λ e. omega arith), (slack_other o, tt))))
-late_others versions.FiveHalf i j o =
+late_others versions.FiveHalf i j o s g =
     ((omega arith, λ e. omega arith), ((omega arith, λ e. omega arith), ((omega arith, λ e. omega arith), (slack_other o, tt))))
+late_others versions.Six i j o s g = (
+  (omega arith, λ e. omega arith),
+  (
+    (omega arith, λ e. omega arith),
+    ((omega arith, λ e. omega arith), (slack_other o, (sender_other s, (growth_other g, tt)))),
+  ),
+)
+late_others versions.SixHalf i j o s g = (
+  (omega arith, λ e. omega arith),
+  (
+    (omega arith, λ e. omega arith),
+    ((omega arith, λ e. omega arith), (slack_other o, (sender_other s, (growth_other g, tt)))),
+  ),
+)
 
 header_others : (h : Header) → AllByRecursion IsOther (header_words h)
 header_others h = (
@@ -130,7 +156,7 @@ header_others h = (
         (omega arith, λ e. omega arith),
         (
           (omega arith, λ e. omega arith),
-          ((omega arith, λ e. omega arith), late_others h.version h.initial h.congestion h.slack),
+          ((omega arith, λ e. omega arith), late_others h.version h.initial h.congestion h.slack h.sender h.growth),
         ),
       ),
     ),
@@ -205,7 +231,7 @@ case_parts t w a b s q =
     let parts = parts_at w.version (a ++ b) (s.headers ++ s.events) (q.first ∷ q.raws) (sym lines) place in
     (parts.0 ∙ sym s.joined, parts.1 ∙ sym q.parts)
 
--- both of version 4 are cut alike, and both of version 5
+-- both of version 4 are cut alike, as are both of version 5 and of version 6
 cut_named : (v : Version) (text : List ℕ) → (trace_part (named_as v) text ≡ trace_part v text) × (witness_part (named_as v) text ≡ witness_part v text)
 cut_named versions.One text = (refl, refl)
 cut_named versions.Two text = (refl, refl)
@@ -214,6 +240,8 @@ cut_named versions.Four text = (refl, refl)
 cut_named versions.FourHalf text = (refl, refl)
 cut_named versions.Five text = (refl, refl)
 cut_named versions.FiveHalf text = (refl, refl)
+cut_named versions.Six text = (refl, refl)
+cut_named versions.SixHalf text = (refl, refl)
 
 pub case_is : (t : Trace) (w : Witness) (a b : List ℕ) → t.header.version ≡ w.version → IsTraceText t a
     → IsWitnessText w b → case_result (a ++ b) ≡ Ok (verdict t w)
@@ -281,8 +309,11 @@ two_listen_prints = record {
         extra = omega arith;
         initial = λ e. refl;
         congestion = λ e. refl;
+        judged = refl;
         slack = tt;
         no_slack = λ e. refl;
+        no_sender = λ e. refl;
+        no_growth = λ e. refl;
       };
   recorded = (refl, omega arith, (refl, omega arith, (refl, omega arith, (refl, omega arith, tt))));
   few = omega arith;

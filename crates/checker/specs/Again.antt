@@ -1,5 +1,7 @@
 -- Traces that are equal except for their spans, and two witnesses of one trace.
 use Rattle.std.specs.Prelude.{◌≡◌, List, [], ◌∷◌, None, map}
+use Rattle.case_forms.specs.declared.version.Growth.TheVariants.{OneSegment}
+use Rattle.case_forms.specs.declared.version.Sender.TheVariants.{Reno}
 use Rattle.case_forms.specs.declared.calls.Host.TheVariants.{Zero}
 use Rattle.case_forms.specs.declared.calls.Call.TheVariants as calls
 use Rattle.case_forms.specs.declared.calls.Answer.TheVariants as answers
@@ -59,6 +61,8 @@ two_listen = record {
     initial = Rfc5681;
     congestion = Full;
     slack = None;
+    sender = Reno;
+    growth = OneSegment;
   };
   lines =
       record { number = 7; moment = 10; thread = 1; event = events.CallBegin (calls.Listen Zero 80 4); span = nowhere }

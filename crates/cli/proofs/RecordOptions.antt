@@ -246,6 +246,8 @@ version_is ns versions.Four e = e
 version_is ns versions.FourHalf e = e
 version_is ns versions.Five e = e
 version_is ns versions.FiveHalf e = e
+version_is ns versions.Six e = e
+version_is ns versions.SixHalf e = e
 
 gives_version : (ns : List ℕ) (v : Version) → IsVersion ns v → GivesVersion (given ns) v
 gives_version ns versions.One (inl e) = inl (ap given e)
@@ -256,6 +258,8 @@ gives_version ns versions.Four e = e
 gives_version ns versions.FourHalf e = e
 gives_version ns versions.Five e = e
 gives_version ns versions.FiveHalf e = e
+gives_version ns versions.Six e = e
+gives_version ns versions.SixHalf e = e
 
 -- the words after `record` request the plan that their numbers request
 pub asked_plan : (words : List Text) (options : List (Setting × ℕ)) (settings : Settings) (asked : Option Plan) → TellEach options words
@@ -311,6 +315,8 @@ same_version ns versions.One versions.Four a b = absurd b
 same_version ns versions.One versions.FourHalf a b = absurd b
 same_version ns versions.One versions.Five a b = absurd b
 same_version ns versions.One versions.FiveHalf a b = absurd b
+same_version ns versions.One versions.Six a b = absurd b
+same_version ns versions.One versions.SixHalf a b = absurd b
 same_version ns versions.Two versions.One a (inl b) = absurd (none_and_one ns 2 b a)
 same_version ns versions.Two versions.One a (inr b) = let bad = one_number ns 1 2 b a in absurd (omega (bad, arith))
 same_version ns versions.Two versions.Two a b = refl
@@ -319,11 +325,15 @@ same_version ns versions.Two versions.Four a b = absurd b
 same_version ns versions.Two versions.FourHalf a b = absurd b
 same_version ns versions.Two versions.Five a b = absurd b
 same_version ns versions.Two versions.FiveHalf a b = absurd b
+same_version ns versions.Two versions.Six a b = absurd b
+same_version ns versions.Two versions.SixHalf a b = absurd b
 same_version ns versions.Three w a b = absurd a
 same_version ns versions.Four w a b = absurd a
 same_version ns versions.FourHalf w a b = absurd a
 same_version ns versions.Five w a b = absurd a
 same_version ns versions.FiveHalf w a b = absurd a
+same_version ns versions.Six w a b = absurd a
+same_version ns versions.SixHalf w a b = absurd a
 
 pub one_plan : (words : List Text) (p q : Plan) → AsksRecord words p → AsksRecord words q → p ≡ q
 one_plan words p q a b =
@@ -349,3 +359,5 @@ asks_whole words plan asks = whole (numbers_of Format asks.options) plan.version
     whole ns versions.FourHalf is = absurd is
     whole ns versions.Five is = absurd is
     whole ns versions.FiveHalf is = absurd is
+    whole ns versions.Six is = absurd is
+    whole ns versions.SixHalf is = absurd is

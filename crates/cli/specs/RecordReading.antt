@@ -43,6 +43,8 @@ GivesVersion format versions.Four = ⊥
 GivesVersion format versions.FourHalf = ⊥
 GivesVersion format versions.Five = ⊥
 GivesVersion format versions.FiveHalf = ⊥
+GivesVersion format versions.Six = ⊥
+GivesVersion format versions.SixHalf = ⊥
 
 -- what these numbers request
 pub record AsksPlan (settings : Settings) (plan : Plan) : Type 0 where

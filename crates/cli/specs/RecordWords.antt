@@ -79,6 +79,8 @@ IsVersion numbers versions.Four = ⊥
 IsVersion numbers versions.FourHalf = ⊥
 IsVersion numbers versions.Five = ⊥
 IsVersion numbers versions.FiveHalf = ⊥
+IsVersion numbers versions.Six = ⊥
+IsVersion numbers versions.SixHalf = ⊥
 
 -- the words request this recording: each option once, in any order, and the version may be left out
 pub record AsksRecord (words : List Text) (plan : Plan) : Type 0 where

@@ -1,8 +1,9 @@
 -- The slack: without one nothing is owed, and with a greater one more is accepted.
 use Rattle.std.proofs.Common.{◌≡◌, ℕ, suc, ◌≤◌, Bool, true, false, List, [], ◌∷◌, Option, None, Some, refl, ap, arith}
-use Rattle.std.specs.Prelude.{◌||◌, if◌then◌else◌, is_some}
-use Rattle.std.specs.Option.{option_map}
+use Rattle.std.specs.Prelude.{not, ◌&&◌, ◌||◌, if◌then◌else◌, is_some}
+use Rattle.std.specs.Option.{option_map, option_map_or}
 use Rattle.case_forms.specs.States.{is_closed}
+use Rattle.case_forms.specs.Versions.{says_sender}
 use Rattle.case_forms.specs.declared.calls.Host.{Host}
 use Rattle.case_forms.specs.declared.calls.Host.TheVariants.{Zero, One}
 use Rattle.case_forms.specs.declared.trace.Header.{Header}
@@ -16,7 +17,7 @@ use Rattle.spec_duties.specs.Acknowledge.{acknowledge_due}
 use Rattle.spec_duties.specs.Cases.{Known, Dutiful, judged_rules, known_after, late_at_end}
 use Rattle.spec_duties.specs.Deadlines.{is_late}
 use Rattle.spec_duties.specs.End as end
-use Rattle.spec_duties.specs.End.{either, end_rules, first_waiting, lates_at, lates_from, lates_of_all, lates_of_host}
+use Rattle.spec_duties.specs.End.{any_unsent, either, end_rules, first_waiting, is_brought_late, is_send_late, lates_at, lates_from, lates_of_all}
 use Rattle.spec_duties.specs.Expire.{expiry_due}
 use Rattle.spec_duties.specs.Owed.{lates_of, lates_of_open, none_late}
 use Rattle.spec_duties.specs.Probe.{probing_due}
@@ -24,14 +25,19 @@ use Rattle.spec_duties.specs.Reset.{reset_since}
 use Rattle.spec_duties.specs.Observations.{observe}
 use Rattle.spec_duties.specs.Slack.{AtMost, LessLateIsMoreAccepted, NothingIsJudged, SlackIsNotNoted, with_slack}
 use Rattle.spec_duties.specs.Start.{start_due}
+use Rattle.spec_duties.specs.Strict.{coarse_expiry_due, coarse_probing_due, strict_lates, with_brought}
 use Rattle.spec_duties.specs.Views.{view_of}
-use Rattle.spec_duties.specs.Watching.{Duties, built_by, counts_now, duty_rules, leaves_late, listener_closed, owed_by, sent_late, touched_rules}
+use Rattle.spec_duties.specs.Watching.{Duties, brought_by, built_by, counts_now, duty_rules, judged_lates, leaves_late, listener_closed, owed_by, sent_late}
+use Rattle.spec_duties.specs.Watching.{strict_by, touched_rules}
 use Rattle.spec_duties.specs.declared.owed.Lates.{Lates}
 use Rattle.spec_duties.specs.declared.owed.Owed.{Owed}
 use Rattle.spec_duties.specs.declared.observations.InboxChange.{InboxChange}
 use Rattle.spec_duties.specs.declared.observations.InboxChange.TheVariants as inbox_change
 use Rattle.spec_duties.specs.declared.observations.Observation.{Observation}
+use Rattle.spec_duties.specs.declared.observations.Sampling.{Sampling}
 use Rattle.spec_duties.specs.declared.observations.TouchedEndpoint.{TouchedEndpoint}
+use Rattle.spec_duties.specs.declared.strict.StrictOwed.{StrictOwed}
+use Rattle.spec_duties.specs.declared.strict.Unsent.{Unsent}
 use Rattle.spec_duties.specs.declared.tables.Built.{Built}
 use Rattle.spec_duties.specs.declared.views.View.{View}
 
@@ -48,7 +54,7 @@ dutiful_any h k (x ∷ xs) any = (
 )
 
 pub late_any : (h : Header) (moment : ℕ) (k : Known) → h.slack ≡ None → late_at_end h moment k ≡ None
-late_any h moment k any = ap (λ o. on o None (λ slack. end.late_at_end slack moment k.duties k.model)) any
+late_any h moment k any = ap (λ o. on o None (λ slack. end.late_at_end h slack moment k.duties k.model)) any
 
 pub nothing_is_judged : NothingIsJudged
 nothing_is_judged = record { rules = nothing_judged; runs = dutiful_any; end = late_any }
@@ -129,6 +135,74 @@ lates_less slack more moment v listener o le = by (is_closed v.state)
     by true = none_less _ _ reset
     by false = open_less slack more moment v o _ _ le reset
 
+-- the stricter duties
+strict_less : (grain slack more moment : ℕ) (v : View) (listener : Option ℕ) (o : Owed) (s : StrictOwed) → slack ≤ more
+    → LatesLess (strict_lates grain slack moment v listener o s) (strict_lates grain more moment v listener o s)
+strict_less grain slack more moment v listener o s le = by (is_closed v.state)
+  where
+    plain : LatesLess (lates_of slack moment v listener o) (lates_of more moment v listener o)
+    plain = lates_less slack more moment v listener o le
+
+    by : (c : Bool)
+        → LatesLess
+        (if c then lates_of slack moment v listener o
+        else record (lates_of slack moment v listener o) {
+          acknowledge = is_late slack moment (acknowledge_due s.acknowledge);
+          expire = is_late slack moment (coarse_expiry_due grain v s.restarted);
+          retransmit = is_late slack moment s.retransmit || is_late slack moment s.probe;
+          probe = is_late slack moment (coarse_probing_due grain v o.probing);
+        })
+        (if c then lates_of more moment v listener o
+        else record (lates_of more moment v listener o) {
+          acknowledge = is_late more moment (acknowledge_due s.acknowledge);
+          expire = is_late more moment (coarse_expiry_due grain v s.restarted);
+          retransmit = is_late more moment s.retransmit || is_late more moment s.probe;
+          probe = is_late more moment (coarse_probing_due grain v o.probing);
+        })
+    by true = plain
+    by false = record {
+      acknowledge = late_less slack more moment (acknowledge_due s.acknowledge) le;
+      expire = late_less slack more moment (coarse_expiry_due grain v s.restarted) le;
+      retransmit =
+          or_less (is_late slack moment s.retransmit) (is_late slack moment s.probe)
+          (is_late more moment s.retransmit) (is_late more moment s.probe)
+          (late_less slack more moment s.retransmit le) (late_less slack more moment s.probe le);
+      probe = late_less slack more moment (coarse_probing_due grain v o.probing) le;
+      start = plain.start;
+      reset = plain.reset;
+    }
+
+brought_less : (a b : Bool) (l m : Lates) → (a ≡ false → b ≡ false) → LatesLess l m → LatesLess (with_brought a l) (with_brought b m)
+brought_less a b l m f less =
+    record {
+      acknowledge = or_less a l.acknowledge b m.acknowledge f less.acknowledge;
+      expire = less.expire;
+      retransmit = less.retransmit;
+      probe = less.probe;
+      start = less.start;
+      reset = less.reset;
+    }
+
+judged_less : (h : Header) (slack more moment : ℕ) (d : Duties) (brought : Option ℕ) (host : Host) (place : ℕ) (v : View) → slack ≤ more
+    → LatesLess (judged_lates (with_slack (Some slack) h) slack moment d brought host place v)
+    (judged_lates (with_slack (Some more) h) more moment d brought host place v)
+judged_less h slack more moment d brought host place v le = by (says_sender h.version)
+  where
+    strict : ℕ → Lates
+    strict n = strict_lates h.grain n moment v (listener_closed d host v) (owed_by d host place) (strict_by d host place)
+
+    by : (c : Bool)
+        → LatesLess
+        (if c then with_brought (is_late slack moment (acknowledge_due brought)) (strict slack)
+        else lates_of slack moment v (listener_closed d host v) (owed_by d host place))
+        (if c then with_brought (is_late more moment (acknowledge_due brought)) (strict more)
+        else lates_of more moment v (listener_closed d host v) (owed_by d host place))
+    by true =
+        brought_less (is_late slack moment (acknowledge_due brought)) (is_late more moment (acknowledge_due brought)) (strict slack) (strict more)
+        (late_less slack more moment (acknowledge_due brought) le)
+        (strict_less h.grain slack more moment v (listener_closed d host v) (owed_by d host place) (strict_by d host place) le)
+    by false = lates_less slack more moment v (listener_closed d host v) (owed_by d host place) le
+
 -- the rules of an endpoint
 leaves_less : (slack more moment : ℕ) (d : Duties) (it : InboxChange) → slack ≤ more → leaves_late slack moment d it ≡ false
     → leaves_late more moment d it ≡ false
@@ -140,13 +214,14 @@ sent_less : (slack more moment : ℕ) (b : Option Built) → slack ≤ more → 
 sent_less slack more moment None le e = refl
 sent_less slack more moment (Some b) le e = late_less slack more moment (Some b.since) le e
 
-touched_less : (h : Header) (slack more moment : ℕ) (d : Duties) (counts : Bool) (o : Option TouchedEndpoint) → slack ≤ more
-    → AreFewer (on o [] (touched_rules (with_slack (Some slack) h) slack moment d counts))
-    (on o [] (touched_rules (with_slack (Some more) h) more moment d counts))
-touched_less h slack more moment d counts None le = tt
-touched_less h slack more moment d counts (Some t) le =
-    let l = lates_less slack more moment t.before (listener_closed d t.host t.before) (owed_by d t.host t.place) le in
-    (l.acknowledge, (l.expire, (l.retransmit, (l.probe, (l.start, (l.reset, (λ e. e, (λ e. e, (λ e. e, tt)))))))))
+touched_less : (h : Header) (slack more moment : ℕ) (d : Duties) (counts : Bool) (brought : Option ℕ) (s : Sampling) (o : Option TouchedEndpoint)
+    → slack ≤ more
+    → AreFewer (on o [] (touched_rules (with_slack (Some slack) h) slack moment d counts brought s))
+    (on o [] (touched_rules (with_slack (Some more) h) more moment d counts brought s))
+touched_less h slack more moment d counts brought s None le = tt
+touched_less h slack more moment d counts brought s (Some t) le =
+    let l = judged_less h slack more moment d brought t.host t.place t.before le in
+    (l.acknowledge, (l.expire, (l.retransmit, (l.probe, (l.start, (l.reset, (λ e. e, (λ e. e, (λ e. e, (λ e. e, tt))))))))))
 
 step_less : (less more : Option ℕ) → AtMost less more → (h : Header) (moment : ℕ) (d : Duties) (s : Observation)
     → first_broken (judged_rules (with_slack less h) moment d s) ≡ None
@@ -163,7 +238,7 @@ step_less (Some slack) (Some more) at h moment d s e =
           (
             sent_less slack more moment (built_by d s.built_change) at,
             touched_less h slack more moment d
-                (counts_now (built_by d s.built_change)) s.touched at,
+                (counts_now (built_by d s.built_change)) (brought_by d s.built_change) s.sampling s.touched at,
           ),
         ),
       ),
@@ -193,18 +268,38 @@ either_less a b c d f g = record {
   reset = or_less a.reset b.reset c.reset d.reset f.reset g.reset;
 }
 
-from_less : (slack more moment : ℕ) (d : Duties) (host : Host) (place : ℕ) (a b : Lates) (es : List Endpoint) → slack ≤ more → LatesLess a b
-    → LatesLess (lates_from slack moment d host place a es) (lates_from more moment d host place b es)
-from_less slack more moment d host place a b [] le f = f
-from_less slack more moment d host place a b (e ∷ es) le f =
-    from_less slack more moment d host (suc place) _ _ es le
-    (either_less a (lates_at slack moment d host place e) b (lates_at more moment d host place e) f
-    (lates_less slack more moment (view_of e) (listener_closed d host (view_of e)) (owed_by d host place) le))
+-- a segment that is not sent
+send_less : (slack more moment : ℕ) → slack ≤ more → (u : Unsent) → is_send_late slack moment u ≡ false → is_send_late more moment u ≡ false
+send_less slack more moment le u = by u.spared
+  where
+    by : (spared : Bool) → not spared && is_late slack moment (Some u.since) ≡ false → not spared && is_late more moment (Some u.since) ≡ false
+    by true e = refl
+    by false e = late_less slack more moment (Some u.since) le e
 
-all_less : (slack more moment : ℕ) (d : Duties) (w : World tcp_shape) → slack ≤ more → LatesLess (lates_of_all slack moment d w) (lates_of_all more moment d w)
-all_less slack more moment d w le =
-    from_less slack more moment d One 0 _ _ w.hosts.one.body.endpoints le
-    (from_less slack more moment d Zero 0 _ _ w.hosts.zero.body.endpoints le (none_less false false (λ e. e)))
+unsent_less : (f g : Unsent → Bool) → ((u : Unsent) → f u ≡ false → g u ≡ false) → (entries : List (ℕ × Option Unsent))
+    → any_unsent f entries ≡ false → any_unsent g entries ≡ false
+unsent_less f g less [] e = refl
+unsent_less f g less (x ∷ entries) e =
+    or_less (option_map_or f x.1 false) (any_unsent f entries) (option_map_or g x.1 false) (any_unsent g entries) (by x.1)
+    (unsent_less f g less entries) e
+  where
+    by : (o : Option Unsent) → option_map_or f o false ≡ false → option_map_or g o false ≡ false
+    by None e = refl
+    by (Some u) e = less u e
+
+from_less : (h : Header) (slack more moment : ℕ) (d : Duties) (host : Host) (place : ℕ) (a b : Lates) (es : List Endpoint) → slack ≤ more → LatesLess a b
+    → LatesLess (lates_from (with_slack (Some slack) h) slack moment d host place a es) (lates_from (with_slack (Some more) h) more moment d host place b es)
+from_less h slack more moment d host place a b [] le f = f
+from_less h slack more moment d host place a b (e ∷ es) le f =
+    from_less h slack more moment d host (suc place) _ _ es le
+    (either_less a (lates_at (with_slack (Some slack) h) slack moment d host place e) b (lates_at (with_slack (Some more) h) more moment d host place e) f
+    (judged_less h slack more moment d None host place (view_of e) le))
+
+all_less : (h : Header) (slack more moment : ℕ) (d : Duties) (w : World tcp_shape) → slack ≤ more
+    → LatesLess (lates_of_all (with_slack (Some slack) h) slack moment d w) (lates_of_all (with_slack (Some more) h) more moment d w)
+all_less h slack more moment d w le =
+    from_less h slack more moment d One 0 _ _ w.hosts.one.body.endpoints le
+    (from_less h slack more moment d Zero 0 _ _ w.hosts.zero.body.endpoints le (none_less false false (λ e. e)))
 
 mapped_none : {X Y : Type 0} (f : X → Y) (o : Option X) → option_map f o ≡ None → o ≡ None
 mapped_none f None e = refl
@@ -215,13 +310,18 @@ end_less : (less more : Option ℕ) → AtMost less more → (h : Header) (momen
 end_less less None at h moment k e = refl
 end_less None (Some more) at h moment k e = absurd at
 end_less (Some slack) (Some more) at h moment k e =
-    let l = all_less slack more moment k.duties k.model at in
-    let none : first_broken (end_rules more moment k.duties k.model) ≡ None =
-    fewer_none (end_rules slack moment k.duties k.model) (end_rules more moment k.duties k.model) (
+    let brought =
+    unsent_less (is_brought_late slack moment) (is_brought_late more moment)
+    (λ u. late_less slack more moment (acknowledge_due u.acknowledge) at) k.duties.unsent in
+    let l = brought_less _ _ _ _ brought (all_less h slack more moment k.duties k.model at) in
+    let sent = unsent_less (is_send_late slack moment) (is_send_late more moment) (send_less slack more moment at) k.duties.unsent in
+    let none : first_broken (end_rules (with_slack (Some more) h) more moment k.duties k.model) ≡ None =
+    fewer_none (end_rules (with_slack (Some slack) h) slack moment k.duties k.model)
+    (end_rules (with_slack (Some more) h) more moment k.duties k.model) (
       waiting_less slack more moment k.duties.inbox at,
-      (l.acknowledge, (l.expire, (l.retransmit, (l.probe, (l.start, (l.reset, tt)))))),
+      (sent, (l.acknowledge, (l.expire, (l.retransmit, (l.probe, (l.start, (l.reset, tt))))))),
     )
-    (mapped_none _ (first_broken (end_rules slack moment k.duties k.model)) e) in
+    (mapped_none _ (first_broken (end_rules (with_slack (Some slack) h) slack moment k.duties k.model)) e) in
     ap (option_map (λ rule. (end.line_of (first_waiting more moment k.duties.inbox) rule, rule))) none
 
 pub less_late : (less more : Option ℕ) → AtMost less more → LessLateIsMoreAccepted less more

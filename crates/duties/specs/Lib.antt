@@ -1,3 +1,4 @@
 pub mod HostTables
 pub mod Lending
+pub mod StrictTables
 pub mod Targets

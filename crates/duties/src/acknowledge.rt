@@ -39,8 +39,9 @@ fn answered_lately(moment: u64, acknowledged: Option<u64>) -> bool
     }
 }
 
+/// Whether a step makes an acknowledgment due.
 #[inline(always)]
-fn asks_ack(event: &Event, state: State, moment: u64, acknowledged: Option<u64>) -> bool
+pub(crate) fn asks_ack(event: &Event, state: State, moment: u64, acknowledged: Option<u64>) -> bool
     ensures { result ≡ asks_ack event.now state moment acknowledged }
 {
     match event {

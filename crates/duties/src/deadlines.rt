@@ -25,7 +25,7 @@ pub(crate) fn is_past(slack: u64, moment: u64, deadline: u128) -> bool
 
 /// Whether a duty with this deadline is late.
 #[inline(always)]
-pub(crate) fn is_late(slack: u64, moment: u64, due: Option<u128>) -> bool
+pub fn is_late(slack: u64, moment: u64, due: Option<u128>) -> bool
     ensures { result ≡ is_late slack moment due }
 {
     match due {

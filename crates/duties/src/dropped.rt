@@ -1,14 +1,17 @@
 //! Which segments need not be processed, which dropped ones ask for an acknowledgment, and what may not be discarded.
 //! `lib.rt` says why each function here is inlined.
 
-ghost use Rattle.std.specs.Prelude.{◌≡◌};
+ghost use Rattle.std.specs.Prelude.{◌≡◌, nat_lt, not, ◌&&◌};
 ghost use Rattle.std.specs.Result.{result_err};
 ghost use Rattle.duties.specs.Targets.{processing_place};
 ghost use Rattle.spec_duties.specs.Dropped.{asks, discards, dropping_of, has_content, holds_next, is_ack_range};
-ghost use Rattle.spec_duties.specs.Dropped.{is_challenged, is_next, is_unacceptable, keeps_order, meets_closed_window};
+ghost use Rattle.spec_duties.specs.Dropped.{is_below_irs, is_challenged, is_next, is_number, is_unacceptable};
+ghost use Rattle.spec_duties.specs.Dropped.{keeps_order, meets_closed_window, reads_old_numbers};
+ghost use Rattle.case_forms.specs.States.{is_syn_received, is_syn_sent};
+ghost use Rattle.case_forms.specs.Versions.{says_sender};
 
-use case_forms::{Host, State, TakeChoice};
-use seqno::number;
+use case_forms::{Host, State, TakeChoice, Version};
+use seqno::{number, read_near};
 use spec_duties::{Droppable, Dropping};
 use spec_tcp::{Arrived, Emission, Endpoint};
 use verdict::Rule;
@@ -38,6 +41,46 @@ fn is_unacceptable(processing: Result<(), Rule>) -> bool
     ensures { result ≡ is_unacceptable (result_err processing) }
 {
     matches!(processing, Err(Rule::Unacceptable))
+}
+
+#[inline(always)]
+fn is_number(processing: Result<(), Rule>) -> bool
+    ensures { result ≡ is_number (result_err processing) }
+{
+    matches!(processing, Err(Rule::Number))
+}
+
+/// Whether the numbers of segments below the initial ones are old ones.
+#[inline(always)]
+pub fn reads_old_numbers(version: Version) -> bool
+    ensures { result ≡ reads_old_numbers version }
+{
+    version.says_sender() && version.is_half()
+}
+
+/// Whether a segment's number is below the peer's initial one.
+#[inline(always)]
+pub fn is_below_irs(e: &Endpoint, m: &Emission) -> bool
+    ensures { result ≡ is_below_irs e.now m.now }
+{
+    match e.irs {
+        Some(irs) => read_near(e.rcv_nxt(), irs, m.seq).is_none(),
+        None => false,
+    }
+}
+
+/// Whether a segment, as an endpoint reads it, acknowledges less than is acknowledged, which version 6 asks.
+#[inline(always)]
+pub fn acknowledges_less(version: Version, e: &Endpoint, m: &Arrived<'_>) -> bool
+    ensures { result ≡ (says_sender version && not (is_syn_sent e.now.state) && not (is_syn_received e.now.state)
+        && m.now.flags.ack && not m.now.flags.rst && nat_lt m.now.ack e.now.stream.snd_una) }
+{
+    version.says_sender()
+        && !e.state.is_syn_sent()
+        && !e.state.is_syn_received()
+        && m.flags().ack
+        && !m.flags().rst
+        && m.ack() < e.stream.snd_una
 }
 
 #[inline(always)]
@@ -74,21 +117,22 @@ pub fn meets_closed_window(e: &Endpoint, m: &Emission) -> bool
 }
 
 /// What a step that drops a segment shows of it. The results say whether the model permits processing the segment, and
-/// answering it with a reset.
+/// answering it with a reset. `old`: its number is an old one.
 #[inline(always)]
 pub fn dropping_of(
     host: Host,
     processing: Result<(), Rule>,
     answering: Result<(), Rule>,
     droppable: Droppable,
+    old: bool,
 ) -> Dropping
-    ensures { result ≡ dropping_of host (result_err processing) (result_err answering) droppable }
+    ensures { result ≡ dropping_of host (result_err processing) (result_err answering) droppable old }
 {
     Dropping {
         host,
         takeable: processing.is_ok(),
         droppable,
-        answerable: answering.is_ok() && !is_unacceptable(processing),
+        answerable: answering.is_ok() && !(is_unacceptable(processing) || old),
     }
 }
 
@@ -101,9 +145,10 @@ pub fn has_content(m: &Emission) -> bool
 }
 
 /// Whether a dropped segment asks for an acknowledgment. The result says whether the model permits processing it.
+/// `old_numbers`: numbers below the initial ones are old ones.
 #[inline(always)]
-pub fn asks(m: &Emission, processing: Result<(), Rule>, e: &Endpoint) -> bool
-    ensures { result ≡ asks m.now (result_err processing) e.now }
+pub fn asks(old_numbers: bool, m: &Emission, processing: Result<(), Rule>, e: &Endpoint) -> bool
+    ensures { result ≡ asks old_numbers m.now (result_err processing) e.now }
 {
     if e.state.is_syn_sent() {
         return false;
@@ -111,7 +156,10 @@ pub fn asks(m: &Emission, processing: Result<(), Rule>, e: &Endpoint) -> bool
     if m.flags.rst {
         return processing.is_ok() && is_challenged(e, m);
     }
-    is_unacceptable(processing) || is_ack_range(processing) && m.flags.ack || processing.is_ok()
+    is_unacceptable(processing)
+        || is_ack_range(processing) && m.flags.ack
+        || processing.is_ok()
+        || old_numbers && is_number(processing)
 }
 
 #[inline(always)]

@@ -7,8 +7,9 @@ ghost use Rattle.spec_duties.specs.Expire.{expiry_due, has_expiry_due, longest_r
 use spec_duties::View;
 use timer_rules::LONGEST_RTO;
 
+/// Whether an expiry of the retransmission timer may be due.
 #[inline(always)]
-fn has_expiry_due(v: &View) -> bool
+pub(crate) fn has_expiry_due(v: &View) -> bool
     ensures { result ≡ has_expiry_due v.now }
 {
     v.timers.rto < LONGEST_RTO && (0 < v.snd_wnd || v.snd_una == 0)

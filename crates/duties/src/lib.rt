@@ -5,9 +5,10 @@
 //! and what is kept after it, given what the step shows of the world. `watched` computes that, and joins both with the
 //! model. Each function looks up a bounded number of entries.
 //!
-//! - `steps`: the rules of a step, and what is kept after it
+//! - `steps`: the rules of a step, and what is kept after it; `steps/strict`: the same for the stricter duties
 //! - `owed`: what an endpoint owes; `acknowledge`, `expire`, `retransmit`, `probe`, `start`, `reset`: a duty each
-//! - `resent`, `excess`: the limits
+//! - `strict`: the duties that version 6 changes; `strict_tables`: what is kept for them
+//! - `resent`, `excess`: the limits; `sampling`: when round trips are measured at least
 //! - `dropped`: which segments may be dropped, and what a dropped one asks for
 //! - `views`, `deadlines`: what duties read of an endpoint; when one is late
 //! - `per_host`: a value for each host
@@ -29,15 +30,18 @@ mod probe;
 mod resent;
 mod reset;
 mod retransmit;
+mod sampling;
 mod start;
 mod steps;
+mod strict;
+mod strict_tables;
 mod views;
 
 pub use acknowledge::acknowledge_due;
-pub use deadlines::{is_late_at_once, judged_slack};
+pub use deadlines::{is_late, is_late_at_once, judged_slack};
 pub use dropped::{
-    Target, asks, discards, dropping_of, has_content, is_challenged, meets_closed_window,
-    processing_place,
+    Target, acknowledges_less, asks, discards, dropping_of, has_content, is_below_irs,
+    is_challenged, meets_closed_window, processing_place, reads_old_numbers,
 };
 pub use expire::expiry_due;
 pub use laws::{less_late_is_more_accepted, nothing_is_judged, slack_is_not_noted};
@@ -46,4 +50,5 @@ pub use probe::probing_due;
 pub use reset::reset_since;
 pub use start::start_due;
 pub use steps::Duties;
+pub use strict::{coarse_expiry_due, coarse_probing_due, with_brought};
 pub use views::{unborn, view_of};

@@ -22,8 +22,9 @@ fn is_closed_with_work(v: &View) -> bool
     is_up(v) && v.snd_wnd == 0 && v.snd_una < v.end
 }
 
+/// Whether a segment probes a closed window.
 #[inline(always)]
-fn is_probing_segment(sending: &Sending, v: &View) -> bool
+pub(crate) fn is_probing_segment(sending: &Sending, v: &View) -> bool
     ensures { result ≡ is_probing_segment sending.now v.now }
 {
     sending.length == 0 && sending.pos as u128 + 1 == v.snd_una as u128 || holds(sending, v.snd_una)
@@ -36,7 +37,7 @@ fn is_probe(event: &Event, v: &View) -> bool
     match event {
         Event::Expires(Timer::Rto | Timer::Persist) => true,
         Event::Sends(sending) => is_probing_segment(sending, v),
-        Event::Expires(Timer::Msl2 | Timer::Giveup)
+        Event::Expires(Timer::Msl2 | Timer::Giveup | Timer::Pto)
         | Event::Opens
         | Event::Calls { .. }
         | Event::Processes { .. }

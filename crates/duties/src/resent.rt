@@ -9,8 +9,9 @@ ghost use Rattle.spec_duties.specs.Resent.{judges_repeats, judges_windows, passe
 use case_forms::{Judged, SegmentPlan, Timer};
 use spec_duties::{Event, View};
 
+/// How many positions a segment occupies.
 #[inline(always)]
-fn making_length(plan: &SegmentPlan) -> u64
+pub(crate) fn making_length(plan: &SegmentPlan) -> u64
     ensures { result ≡ making_length plan.now }
 {
     plan.len as u64 + plan.flags.syn as u64 + plan.flags.fin as u64
@@ -40,7 +41,7 @@ fn begins_again(event: &Event, before: &View, after: &View) -> bool
     match event {
         Event::Expires(Timer::Rto | Timer::Persist) | Event::Recovers => true,
         Event::Processes { .. } => before.timers.persist_armed.is_some() && 0 < after.snd_wnd,
-        Event::Expires(Timer::Msl2 | Timer::Giveup)
+        Event::Expires(Timer::Msl2 | Timer::Giveup | Timer::Pto)
         | Event::Opens
         | Event::Calls { .. }
         | Event::Drops { .. }

@@ -17,8 +17,9 @@ pub(crate) fn holds(sending: &Sending, position: u64) -> bool
     sending.pos <= position && ((position - sending.pos) as u128) < sending.length
 }
 
+/// Whether more is acknowledged.
 #[inline(always)]
-fn acknowledges_more(before: &View, after: &View) -> bool
+pub(crate) fn acknowledges_more(before: &View, after: &View) -> bool
     ensures { result ≡ acknowledges_more before.now after.now }
 {
     before.snd_una < after.snd_una
@@ -31,15 +32,17 @@ fn is_sending(event: &Event) -> bool
     matches!(event, Event::Sends(_))
 }
 
+/// Whether the retransmission timer expires.
 #[inline(always)]
-fn is_timeout(event: &Event) -> bool
+pub(crate) fn is_timeout(event: &Event) -> bool
     ensures { result ≡ is_timeout event.now }
 {
     matches!(event, Event::Expires(Timer::Rto))
 }
 
+/// Whether the persist timer expires.
 #[inline(always)]
-fn is_probe_timeout(event: &Event) -> bool
+pub(crate) fn is_probe_timeout(event: &Event) -> bool
     ensures { result ≡ is_probe_timeout event.now }
 {
     matches!(event, Event::Expires(Timer::Persist))

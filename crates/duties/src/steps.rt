@@ -9,6 +9,7 @@ ghost use Rattle.indexmap.specs.IndexMap.{insert_entry};
 ghost use Rattle.verdict.specs.Rules.{first_broken};
 ghost use Rattle.spec_network.specs.Tables.{on, pick, waiting};
 ghost use Rattle.spec_duties.specs.Owed.{late_rules, lates_of, nothing, owed_after};
+ghost use Rattle.spec_duties.specs.Watching.{brought_by};
 ghost use Rattle.spec_duties.specs.Watching.{built_after, built_by, builds_mere_ack, closed_at, counts_for, counts_now};
 ghost use Rattle.spec_duties.specs.Watching.{drops_needed, duties_after, duty_rules, inbox_after, is_needed};
 ghost use Rattle.spec_duties.specs.Watching.{is_droppable};
@@ -16,29 +17,34 @@ ghost use Rattle.spec_duties.specs.Watching.{joined, leaves_late, left, limit_ru
 ghost use Rattle.spec_duties.specs.Watching.{listening_at, moved, moved_by, new_listening, owed_by, owed_table_after};
 ghost use Rattle.spec_duties.specs.Watching.{queued, sent_late, start, touched_rules};
 
+mod strict;
+
 use crate::deadlines::is_late_at_once;
 use crate::excess::{is_excess, is_mere_ack, one_more};
-use crate::owed::{admits_owed, nothing, owed_after, owed_open};
+use crate::owed::{admits_lates, admits_owed, nothing, owed_after, owed_open};
 use crate::per_host::PerHost;
 use crate::resent::{is_resent, is_resent_beyond};
+use crate::strict_tables::StrictTables;
 use case_forms::{Header, Host, OutOfMemory};
 use spec_duties::{
-    Built, BuiltChange, Droppable, Dropping, Event, InboxChange, Listening, Observation, Owed,
-    Queueing, TouchedEndpoint, View,
+    Built, BuiltChange, Droppable, Dropping, Event, InboxChange, Lates, Listening, Observation,
+    Owed, Queueing, TouchedEndpoint, View,
 };
+use spec_tcp::EndpointId;
 use std::alloc::Global;
 use std::marker::Model;
 use tables::Table;
 use verdict::Rule;
 
 /// What duties keep: what each endpoint owes, each listener's children, since when each segment in an inbox waits, and
-/// when each segment was built that isn't sent yet.
+/// when each segment was built that isn't sent yet. The last is for the stricter duties of version 6.
 #[derive(Drop)]
 pub struct Duties {
     owed: PerHost<Table<Owed>>,
     listening: PerHost<Table<Listening>>,
     inbox: Table<Option<u64>>,
     built: Table<Option<Built>>,
+    strict: StrictTables,
 }
 
 impl Model for Duties {
@@ -52,6 +58,8 @@ impl Model for Duties {
       listening = entries_of a.listening;
       inbox = a.inbox.entries;
       built = a.built.entries;
+      strict = a.strict.owed;
+      unsent = a.strict.unsent;
     } };
 }
 
@@ -65,6 +73,7 @@ impl Duties {
             listening: PerHost::new(Table::new(alloc), Table::new(alloc)),
             inbox: Table::new(alloc),
             built: Table::new(alloc),
+            strict: StrictTables::new(alloc),
         }
     }
 
@@ -132,6 +141,9 @@ impl Duties {
             Droppable::IfFull { listener, backlog } => {
                 u32::from(backlog) <= self.listening_at(host, listener).children
             }
+            Droppable::IfStale { place, behind } => {
+                u64::from(self.strict_by(host, place).widest) < behind
+            }
         }
     }
 
@@ -179,6 +191,32 @@ impl Duties {
         }
     }
 
+    // The same in version 6.
+    #[inline(always)]
+    fn admits_strictly(
+        &self,
+        header: &Header,
+        slack: u64,
+        moment: u64,
+        counts: bool,
+        seen: &Observation,
+        touched: &TouchedEndpoint,
+    ) -> Result<(), Rule>
+        ensures { result_err result ≡ first_broken (touched_rules header.now slack moment self.now counts
+            (brought_by self.now seen.now.built_change) seen.now.sampling touched.now) }
+    {
+        let id = EndpointId {
+            host: touched.host,
+            number: touched.place,
+        };
+        let brought = self.brought_by(seen.built_change);
+        let lates = self.judged_lates(header, slack, moment, brought, id, &touched.before);
+        let due = self.is_sample_due(seen.sampling, touched);
+        let owed = self.owed_by(touched.host, touched.place);
+        admits_both(header, lates, Limited { counts, due }, touched, &owed)
+    }
+
+    // Whether a step is neither late nor too much at the endpoint that it touches.
     #[inline(always)]
     fn admits_touched(
         &self,
@@ -186,15 +224,25 @@ impl Duties {
         slack: u64,
         moment: u64,
         counts: bool,
+        seen: &Observation,
         touched: &TouchedEndpoint,
     ) -> Result<(), Rule>
-        ensures { result_err result ≡ first_broken (touched_rules header.now slack moment self.now counts touched.now) }
+        ensures { result_err result ≡ first_broken (touched_rules header.now slack moment self.now counts
+            (brought_by self.now seen.now.built_change) seen.now.sampling touched.now) }
     {
+        if header.version.says_sender() {
+            return self.admits_strictly(header, slack, moment, counts, seen, touched);
+        }
+        let due = self.is_sample_due(seen.sampling, touched);
+        let limited = Limited { counts, due };
         let closed = self.listener_closed(touched.host, &touched.before);
         let table = self.owed.get(touched.host);
         match table.get(u64::from(touched.place)) {
-            Some(owed) => admits_endpoint(header, slack, moment, closed, counts, touched, owed),
-            None => admits_endpoint(header, slack, moment, closed, counts, touched, &nothing()),
+            Some(owed) => { admits_endpoint(header, slack, moment, closed, limited, touched, owed) }
+            None => {
+                let owed = nothing();
+                admits_endpoint(header, slack, moment, closed, limited, touched, &owed)
+            }
         }
     }
 
@@ -224,7 +272,7 @@ impl Duties {
         }
         match &seen.touched {
             Some(touched) => {
-                self.admits_touched(header, slack, moment, counts_now(built), touched)
+                self.admits_touched(header, slack, moment, counts_now(built), seen, touched)
             }
             None => Ok(()),
         }
@@ -264,14 +312,22 @@ fn counts_now(built: Option<Built>) -> bool
     }
 }
 
+// What a step does too much of, or not at all: it sends a mere acknowledgment; it makes no measurement that is due.
+#[derive(Clone, Copy)]
+struct Limited {
+    counts: bool,
+    due: bool,
+}
+
 #[inline(always)]
 fn admits_limits(
     header: &Header,
     touched: &TouchedEndpoint,
-    counts: bool,
+    limited: Limited,
     owed: &Owed,
 ) -> Result<(), Rule>
-    ensures { result_err result ≡ first_broken (limit_rules header.now touched.now counts owed.now) }
+    ensures { result_err result ≡ first_broken
+        (limit_rules header.now touched.now limited.counts limited.due owed.now) }
 {
     if is_resent(
         header.congestion,
@@ -284,10 +340,31 @@ fn admits_limits(
     if is_resent_beyond(header.congestion, &touched.event, &touched.before) {
         return Err(Rule::ResentBeyond);
     }
-    if is_excess(counts, owed.answers) {
+    if is_excess(limited.counts, owed.answers) {
         return Err(Rule::AckExcess);
     }
+    if limited.due {
+        return Err(Rule::SampleDue);
+    }
     Ok(())
+}
+
+// Whether a step is neither late nor too much at an endpoint of which these duties are late.
+#[inline(always)]
+fn admits_both(
+    header: &Header,
+    lates: Lates,
+    limited: Limited,
+    touched: &TouchedEndpoint,
+    owed: &Owed,
+) -> Result<(), Rule>
+    ensures { result_err result
+        ≡ first_broken (late_rules lates ++ limit_rules header.now touched.now limited.counts limited.due owed.now) }
+{
+    match admits_lates(lates) {
+        Ok(()) => admits_limits(header, touched, limited, owed),
+        Err(rule) => Err(rule),
+    }
 }
 
 // Whether a step is neither late nor too much at an endpoint that owes this.
@@ -297,16 +374,16 @@ fn admits_endpoint(
     slack: u64,
     moment: u64,
     listener_closed: Option<u64>,
-    counts: bool,
+    limited: Limited,
     touched: &TouchedEndpoint,
     owed: &Owed,
 ) -> Result<(), Rule>
     ensures { result_err result ≡ first_broken
         (late_rules (lates_of slack moment touched.now.before listener_closed owed.now)
-        ++ limit_rules header.now touched.now counts owed.now) }
+        ++ limit_rules header.now touched.now limited.counts limited.due owed.now) }
 {
     match admits_owed(slack, moment, &touched.before, listener_closed, owed) {
-        Ok(()) => admits_limits(header, touched, counts, owed),
+        Ok(()) => admits_limits(header, touched, limited, owed),
         Err(rule) => Err(rule),
     }
 }
@@ -511,11 +588,15 @@ impl Duties {
         }
     }
 
-    /// Notes a step, if the endpoint that it touched is then seen like this. If memory runs out, the duties are of no
-    /// use any more.
+    // Notes a step, but not for the stricter duties.
     #[inline(always)]
-    pub fn note(&mut self, moment: u64, seen: &Observation, after: &View) -> Result<(), OutOfMemory>
-        ensures { OnOk result (self.new ≡ duties_after after.now moment seen.now self.old) }
+    fn note_plain(
+        &mut self,
+        moment: u64,
+        seen: &Observation,
+        after: &View,
+    ) -> Result<(), OutOfMemory>
+        ensures { OnOk result (self.new ≡ duties_after false after.now moment seen.now self.old) }
     {
         let counts = counts_now(self.built_by(seen.built_change));
         if let Some(touched) = &seen.touched {
@@ -525,5 +606,21 @@ impl Duties {
         self.note_queueing(moment, seen.queueing)?;
         note_inbox_change(&mut self.inbox, moment, seen.inbox_change)?;
         note_built_change(&mut self.built, moment, seen, after)
+    }
+
+    /// Notes a step, if the endpoint that it touched is then seen like this; `strict`: for the stricter duties, too. If
+    /// memory runs out, the duties are of no use any more.
+    #[inline(always)]
+    pub fn note(
+        &mut self,
+        strict: bool,
+        moment: u64,
+        seen: &Observation,
+        after: &View,
+    ) -> Result<(), OutOfMemory>
+        ensures { OnOk result (self.new ≡ duties_after strict after.now moment seen.now self.old) }
+    {
+        self.note_if_strict(strict, moment, seen, after)?;
+        self.note_plain(moment, seen, after)
     }
 }

@@ -30,6 +30,7 @@ pub fn view_of(endpoint: &Endpoint) -> View
         rcv_adv: endpoint.window.rcv_adv,
         congestion_edge: una as u128 + endpoint.control.send_edge(0) as u128,
         timers: endpoint.timers,
+        backoffs: endpoint.backoffs,
     }
 }
 
@@ -52,6 +53,7 @@ pub fn unborn() -> View
         rcv_adv: 0,
         congestion_edge: 0,
         timers: Timers::start(),
+        backoffs: 0,
     }
 }
 

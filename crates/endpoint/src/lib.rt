@@ -25,6 +25,7 @@ mod timeouts;
 mod wire;
 
 pub use arrives::listen::{admits_listening, child};
+pub use arrives::other_states::ack::may_sample;
 pub use arrives::other_states::admits_connected;
 pub use arrives::syn_sent::{admits_syn_sent, completes_handshake};
 pub use arrives::take_segment;

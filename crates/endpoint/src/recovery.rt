@@ -2,7 +2,8 @@
 
 ghost use Rattle.spec_tcp.specs.Bounds.{HasRoom};
 ghost use Rattle.spec_tcp.specs.Forgetting.{forget_endpoint};
-ghost use Rattle.spec_tcp.specs.Recovery.{is_bad_recovery, recovery_rules, after_recovery, greatest_at_recovery};
+ghost use Rattle.spec_tcp.specs.Recovery.{after_recovery, greatest_at_recovery, is_bad_recovery, is_undone};
+ghost use Rattle.spec_tcp.specs.Recovery.{recovery_rules};
 ghost use Rattle.spec_tcp.specs.Signals.{at_moment, recovery_signal};
 ghost use Rattle.std.specs.Prelude.{◌≡◌};
 ghost use Rattle.std.specs.Result.{result_err};
@@ -10,19 +11,21 @@ ghost use Rattle.verdict.specs.Rules.{first_broken};
 ghost use Rattle.window_rules.specs.Control.{greatest};
 
 use crate::signals::{at_moment, recovery_signal};
+use case_forms::RecoveryChange;
 use spec_tcp::Endpoint;
 use verdict::Rule;
 use window_rules::GREATEST_WINDOW;
 
-/// Whether fast recovery may begin at an endpoint, with this congestion window and slow start threshold (in bytes). The
-/// error is the first rule that is broken.
+/// Whether fast recovery may begin at an endpoint, with this congestion window and slow start threshold (in bytes). None
+/// is undone. The error is the first rule that is broken.
 pub fn admits_recovery(
     endpoint: &Endpoint,
+    change: RecoveryChange,
     cwnd: u32,
     ssthresh: u32,
     moment: u64,
 ) -> Result<(), Rule>
-    ensures { result_err result ≡ first_broken (recovery_rules endpoint.now cwnd ssthresh moment) }
+    ensures { result_err result ≡ first_broken (recovery_rules endpoint.now change cwnd ssthresh moment) }
 {
     if endpoint.state.is_closed() {
         return Err(Rule::NoEndpoint);
@@ -30,10 +33,19 @@ pub fn admits_recovery(
     if !endpoint.is_up() {
         return Err(Rule::State);
     }
-    if is_bad_recovery(endpoint, cwnd, ssthresh, moment) {
+    if is_undone(change) || is_bad_recovery(endpoint, cwnd, ssthresh, moment) {
         return Err(Rule::Recovery);
     }
     Ok(())
+}
+
+fn is_undone(change: RecoveryChange) -> bool
+    ensures { result ≡ is_undone change }
+{
+    match change {
+        RecoveryChange::Begins => false,
+        RecoveryChange::IsUndone => true,
+    }
 }
 
 fn is_bad_recovery(endpoint: &Endpoint, cwnd: u32, ssthresh: u32, moment: u64) -> bool

@@ -52,7 +52,7 @@ fn grows_above(endpoint: &Endpoint, expired: Expired, moment: u64) -> bool
 {
     match expired {
         Expired::Rto(growth) => is_above(endpoint, growth, moment),
-        Expired::Persist | Expired::Msl2 | Expired::Giveup => false,
+        Expired::Persist | Expired::Msl2 | Expired::Giveup | Expired::Pto => false,
     }
 }
 
@@ -84,6 +84,7 @@ fn is_off(endpoint: &Endpoint, timer: Timer) -> bool
         }
         Timer::Msl2 => endpoint.timers.msl_armed.is_none(),
         Timer::Giveup => !may_give_up(endpoint),
+        Timer::Pto => true,
     }
 }
 
@@ -112,7 +113,7 @@ fn is_early(timers: &Timers, timer: Timer, moment: u64, header: &Header) -> bool
     ensures { result ≡ is_early timers.now timer moment header.now }
 {
     match timer {
-        Timer::Giveup => false,
+        Timer::Giveup | Timer::Pto => false,
         Timer::Rto => is_refused_early(timers, Timer::Rto, moment, header),
         Timer::Persist => is_refused_early(timers, Timer::Persist, moment, header),
         Timer::Msl2 => is_refused_early(timers, Timer::Msl2, moment, header),
@@ -141,6 +142,7 @@ pub fn expire(endpoint: &mut Endpoint, expired: Expired, moment: u64)
         Expired::Persist => expire_persist(endpoint, moment),
         Expired::Msl2 => shut_down(endpoint),
         Expired::Giveup => give_up(endpoint),
+        Expired::Pto => {}
     }
 }
 

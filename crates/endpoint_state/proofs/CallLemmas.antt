@@ -6,6 +6,7 @@ use Rattle.case_forms.specs.declared.trace.Header.{Header}
 use Rattle.case_forms.specs.declared.calls.Host.{Host}
 use Rattle.case_forms.specs.declared.calls.Call.{Call}
 use Rattle.case_forms.specs.declared.calls.Answer.{Answer}
+use Rattle.verdict.specs.declared.rule.Rule.{Rule}
 use Rattle.verdict.specs.declared.rule.Rule.TheVariants as rules
 use Rattle.verdict.specs.Rules.{first_broken}
 use Rattle.verdict.proofs.RuleLemmas.{none_both}
@@ -138,3 +139,11 @@ after_at_any_moment p moment t answer = ap (λ (w : World tcp_shape). record p {
     by Idle = refl
     by (Called call) = rw (at call (aim_of (tcp p.header) p.world.hosts (acts.aim call))) refl
     by (Answered given) = refl
+
+-- a thread without an open call, or one whose call had its effect, is refused for this
+pub refused_open : (idle answered : Bool) (rule : Rule) (rest : Option Rule)
+    → Some rule ≡ (if idle then Some rules.NoCall else if answered then Some rules.DoneTwice else None)
+    → Some rule ≡ (if idle then Some rules.NoCall else if answered then Some rules.DoneTwice else rest)
+refused_open true answered rule rest e = e
+refused_open false true rule rest e = e
+refused_open false false rule rest e = absurd cc

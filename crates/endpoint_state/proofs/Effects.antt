@@ -17,7 +17,7 @@ use Rattle.spec_tcp.specs.Calls.Close.{shut_down, ended_state, after_shut, after
 use Rattle.case_forms.specs.declared.steps.SegmentPlan.{SegmentPlan}
 use Rattle.spec_tcp.specs.Makes.{endpoint_made, after_making}
 use Rattle.case_forms.specs.declared.taken_line.Expired.{Expired}
-use Rattle.case_forms.specs.declared.taken_line.Expired.TheVariants.{Giveup, Msl2, Persist, Rto}
+use Rattle.case_forms.specs.declared.taken_line.Expired.TheVariants.{Giveup, Msl2, Persist, Pto, Rto}
 use Rattle.spec_tcp.specs.Timeouts.{after_expiry}
 use Rattle.spec_tcp.specs.Recovery.{after_recovery}
 use Rattle.endpoint_state.proofs.Forgets.{IsBounded, bounded_later}
@@ -244,6 +244,7 @@ after_expiry_bounded Giveup moment steps e b =
       met = later.met;
       unmet = later.unmet;
     }
+after_expiry_bounded Pto moment steps e b = bounded_later steps e b
 
 pub after_recovery_bounded : (cwnd ssthresh moment steps : ℕ) (e : Endpoint) → IsBounded steps e → IsBounded (suc steps) (after_recovery e cwnd ssthresh moment)
 after_recovery_bounded cwnd ssthresh moment steps e b =

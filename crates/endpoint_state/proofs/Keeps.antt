@@ -19,7 +19,7 @@ use Rattle.spec_tcp.specs.Arrives.OtherStates.Reset.{was_reset}
 use Rattle.spec_tcp.specs.Arrives.SynSent.{on_syn}
 use Rattle.spec_tcp.specs.Arrives.{endpoint_taken}
 use Rattle.case_forms.specs.declared.taken_line.Expired.{Expired}
-use Rattle.case_forms.specs.declared.taken_line.Expired.TheVariants.{Giveup, Msl2, Persist, Rto}
+use Rattle.case_forms.specs.declared.taken_line.Expired.TheVariants.{Giveup, Msl2, Persist, Pto, Rto}
 use Rattle.spec_tcp.specs.Timeouts.{after_expiry}
 use Rattle.spec_tcp.specs.Recovery.{after_recovery}
 use Rattle.spec_tcp.specs.Forgetting.{forget_endpoint}
@@ -52,6 +52,7 @@ keeps_expired e (Rto growth) moment = record { lport = refl; rport = refl; liste
 keeps_expired e Persist moment = record { lport = refl; rport = refl; listener = λ l is. is }
 keeps_expired e Msl2 moment = record { lport = refl; rport = refl; listener = λ l is. is }
 keeps_expired e Giveup moment = record { lport = refl; rport = refl; listener = λ l is. is }
+keeps_expired e Pto moment = record { lport = refl; rport = refl; listener = λ l is. is }
 
 pub keeps_recovered : (e : Endpoint) (cwnd ssthresh moment : ℕ) → Keeps e (after_recovery e cwnd ssthresh moment)
 keeps_recovered e cwnd ssthresh moment = record { lport = refl; rport = refl; listener = λ l is. is }

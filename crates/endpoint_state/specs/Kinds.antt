@@ -75,7 +75,7 @@ expired_body moment ports e b = at_ports b ports.lport ports.rport (λ x. after_
 
 -- the same for fast recovery
 abbrev pub recovering_rules : (moment : ℕ) → Recovery → HostTcp → List (Rule × Bool)
-recovering_rules moment r b = rules_at b r.lport r.rport (λ x. recovery_rules x r.cwnd r.ssthresh moment)
+recovering_rules moment r b = rules_at b r.lport r.rport (λ x. recovery_rules x r.change r.cwnd r.ssthresh moment)
 
 abbrev pub recovered_body : (moment : ℕ) → Recovery → HostTcp → HostTcp
 recovered_body moment r b = at_ports b r.lport r.rport (λ x. after_recovery x r.cwnd r.ssthresh moment)

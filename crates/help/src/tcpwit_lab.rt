@@ -184,8 +184,8 @@ the ways of hosts that it needs, and what each level before it refused first. If
 explained, it goes back, as find does; `tcpwit_lab find --help` has WAYS and HOSTS.
 
 It judges duties, too, such as acknowledging in time: a host may be SLACK late with them. With
-`--slack any`, they aren't judged. A trace of version 5 has a slack of its own, which is the default
-then. If a duty refuses a level, the output has the verdict without duties, too.
+`--slack any`, they aren't judged. A trace of version 5 or 6 has a slack of its own, which is the
+default then. If a duty refuses a level, the output has the verdict without duties, too.
 
 With --many, each trace is ended by a line `end`, and gets an object, a line, before the next one is
 read. The options count for all traces, and there is no --case.

@@ -336,7 +336,7 @@ fn extras_of(version: Version, event: &Event) -> u8
         Event::Came(..) if version.is_half() => 0,
         Event::Came(..) => 1,
         Event::Expired(_, _, _, Timer::Rto) => 2,
-        Event::Expired(_, _, _, Timer::Persist | Timer::Msl2 | Timer::Giveup) => 0,
+        Event::Expired(_, _, _, Timer::Persist | Timer::Msl2 | Timer::Giveup | Timer::Pto) => 0,
     }
 }
 

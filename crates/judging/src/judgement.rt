@@ -4,7 +4,7 @@ use crate::connections::Connections;
 use crate::levels::{Answer, Level, is_stricter};
 use crate::one_level::{Facts, JudgeFault, Question, Tried, try_level};
 use crate::sentences::{answer, lines_kept};
-use crate::version_five::{Slack, header_of};
+use crate::version_five::{Slack, header_of, strictest_level};
 use case_forms::Judged;
 use std::alloc::{AllocError, Global};
 use verdict::Verdict;
@@ -35,6 +35,8 @@ pub struct Judgement<'t> {
     /// The last of them, and the answer at it.
     pub last: Judged,
     pub answer: Answer,
+    /// The strictest level at which this trace can be judged.
+    strictest: Judged,
     /// How late a host may be with its duties, in microseconds. None: they weren't judged.
     pub slack: Option<u64>,
     /// Whether only host 0 was recorded.
@@ -45,22 +47,23 @@ pub struct Judgement<'t> {
     pub ways: Ways,
     /// The event lines of the case.
     pub lines: CaseLines,
-    /// The case of the last level that was tried: the trace in version 5, and its witness.
+    /// The case of the last level that was tried: the trace in version 5 or 6, and its witness.
     pub case: CaseText<'t>,
 }
 
 impl Judgement<'_> {
-    /// Whether this level has a yes, or a stricter one that was tried.
+    /// Whether this level has a yes, or a stricter one that was tried. If the trace can't be judged at this level, the
+    /// strictest one counts.
     pub fn meets(&self, least: Judged) -> bool {
         match self.level {
-            Some(level) => !is_stricter(least, level),
+            Some(level) => { !is_stricter(least, level) || !is_stricter(self.strictest, level) }
             None => false,
         }
     }
 }
 
-/// Judges a trace of any version, from a level on, and tries no level after the first yes. If a level is a no by a
-/// duty, it is tried without duties, too, which gives no level.
+/// Judges a trace of any version, from a level on, and tries no level after the first yes, nor one at which the trace
+/// can't be judged. If a level is a no by a duty, it is tried without duties, too, which gives no level.
 pub fn judge(alloc: Global, text: &[u8], settings: Settings) -> Result<Judgement<'_>, JudgeFault> {
     let Settings {
         from,
@@ -76,7 +79,7 @@ pub fn judge(alloc: Global, text: &[u8], settings: Settings) -> Result<Judgement
     };
     let mut levels = Vec::new(alloc);
     for judged in [Judged::Full, Judged::Recovery] {
-        if is_stricter(judged, from) {
+        if is_stricter(judged, from) || is_stricter(judged, strictest_level(&header)) {
             continue;
         }
         let tried = try_level(alloc, question, judged)?;
@@ -129,6 +132,7 @@ fn conclude<'t>(
         levels,
         last: judged,
         answer: facts.answer,
+        strictest: strictest_level(question.header),
         slack: question.slack,
         is_half: question.header.version.is_half(),
         connections: facts.connections,

@@ -72,7 +72,7 @@ pub(crate) fn is_yes_without_duties(levels: &[Level]) -> bool {
     })
 }
 
-// Whether a rule is one that version 5 adds, and that `slack any` leaves out.
+// Whether a rule is one that versions 5 and 6 add, and that `slack any` leaves out.
 fn is_of_duties(rule: Rule) -> bool {
     match rule {
         Rule::LineRange | Rule::LineAgain | Rule::ThreadOrder | Rule::MomentFalls => false,
@@ -88,6 +88,6 @@ fn is_of_duties(rule: Rule) -> bool {
         Rule::Dropped | Rule::Discarded | Rule::ProcessLate | Rule::SendLate => true,
         Rule::AckLate | Rule::ExpiryLate | Rule::ResendLate | Rule::ProbeLate => true,
         Rule::StartLate | Rule::ResetLate | Rule::Resent | Rule::ResentBeyond => true,
-        Rule::AckExcess => true,
+        Rule::AckExcess | Rule::SampleDue => true,
     }
 }

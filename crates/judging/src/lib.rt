@@ -1,12 +1,12 @@
 //! How much of the RFCs a recorded run follows.
 //!
-//! Few stacks follow RFC 5681 to the letter. So a trace is rewritten in version 5 of the texts, once for each level of
-//! the header line `congestion`, from a chosen one on, until `checker` accepts the witness that `witness_search` finds.
-//! The answer is the first level with a yes, and what each level before it refused first, as `replayed` reads it from
-//! the case. A level that a duty refuses is tried without duties, too, until one has a yes then. The time is linear in
-//! the size of the trace, and a budget bounds what the search spends on going back at each level. Of a long transfer,
-//! the search has the text and the parsed trace in memory; the parsed trace is freed before the case is judged, whose
-//! event lines aren't copied. Each function is proved only to be safe and to return.
+//! Few stacks follow RFC 5681 to the letter. So a trace is rewritten in version 5 of the texts, or kept in version 6,
+//! once for each level of the header line `congestion`, from a chosen one on, until `checker` accepts the witness that
+//! `witness_search` finds. The answer is the first level with a yes, and what each level before it refused first, as
+//! `replayed` reads it from the case. A level that a duty refuses is tried without duties, too, until one has a yes
+//! then. The time is linear in the size of the trace, and a budget bounds what the search spends on going back at each
+//! level. Of a long transfer, the search has the text and the parsed trace in memory; the parsed trace is freed before
+//! the case is judged, whose event lines aren't copied. Each function is proved only to be safe and to return.
 //!
 //! - `judge`, `Judgement`: the answer for a trace, the level with a yes, and the case of the last level
 //! - `Settings`: how a trace is judged, from which level on
@@ -19,7 +19,7 @@
 //! Private modules:
 //!
 //! - `judgement`: the levels, one after the other
-//! - `version_five`: a trace in version 5
+//! - `version_five`: a trace in version 5 or 6
 //! - `one_level`: the case that is found at one level, and its verdict
 //! - `levels`: what is known of each level, and whether duties alone refuse it
 //! - `connections`: how many connections it has, and how many were established

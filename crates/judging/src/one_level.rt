@@ -82,7 +82,7 @@ impl Question<'_, '_> {
 #[derive(Drop)]
 pub(crate) struct Tried<'t> {
     pub level: Judged,
-    /// The trace in version 5, and the witness that was found.
+    /// The trace in version 5 or 6, and the witness that was found.
     pub case: CaseText<'t>,
     /// How the search ended.
     pub ending: Ending,

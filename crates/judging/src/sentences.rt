@@ -53,7 +53,7 @@ fn say_meaning(
     match last.facts.answer.verdict {
         Verdict::Yes { .. } => {
             out.push_str(meaning(last.level))?;
-            say_slack(out, question.slack, last.level)?;
+            say_slack(out, question, last.level)?;
             say_ways(out, &last.ways)?;
             say_connections(out, last.facts.connections)
         }
@@ -121,20 +121,26 @@ The choice of when to retransmit data isn't judged either.\n",
     }
 }
 
-// The rules of version 5 that a level judges.
-fn duty_rules(level: Judged) -> &'static str {
-    match level {
-        Judged::Full => "rules 40 to 52",
-        Judged::Recovery => "rules 40 to 50 and 52",
-        Judged::NoControl => "rules 40 to 49 and 52",
+// The rules of duties that a level judges, in version 6 or before.
+fn duty_rules(level: Judged, is_six: bool) -> &'static str {
+    match (level, is_six) {
+        (Judged::Full, _) => "rules 40 to 52",
+        (Judged::Recovery, false) => "rules 40 to 50 and 52",
+        (Judged::Recovery, true) => "rules 40 to 50, 52 and 56",
+        (Judged::NoControl, false) => "rules 40 to 49 and 52",
+        (Judged::NoControl, true) => "rules 40 to 49, 52 and 56",
     }
 }
 
 // Writes how late a host may have been with its duties, in microseconds, and which rules say that at a level. None:
 // they weren't judged.
-fn say_slack(out: &mut String, slack: Option<u64>, level: Judged) -> Result<(), OutOfMemory> {
-    let rules = duty_rules(level);
-    match slack {
+fn say_slack(
+    out: &mut String,
+    question: Question<'_, '_>,
+    level: Judged,
+) -> Result<(), OutOfMemory> {
+    let rules = duty_rules(level, question.header.version.says_sender());
+    match question.slack {
         None => Ok(()),
         Some(0) => writeln!(out, "No duty was late ({rules})."),
         Some(slack) => writeln!(

@@ -1,4 +1,4 @@
-//! A trace in version 5: another header, and the same event lines.
+//! A trace in version 5: another header, and the same event lines. A trace of version 6 stays one.
 
 use bstr::ByteSlice;
 use case_forms::{Header, Judged, Lines, OutOfMemory, Trace, Version};
@@ -21,7 +21,7 @@ pub(crate) fn header_text(alloc: Global, header: &Header) -> Result<Vec<u8>, Out
 /// How late a host may be with its duties.
 #[derive(Clone, Copy)]
 pub enum Slack {
-    /// As the trace says if it has version 5, else a second.
+    /// As the trace says if it has version 5 or 6, else a second.
     Usual,
     /// So many microseconds, at most `GREATEST_SLACK`.
     Given(u64),
@@ -46,12 +46,22 @@ impl Slack {
     }
 }
 
-/// The header in version 5, at this level and with this slack. What an older version doesn't say is read as it is
-/// judged: RFC 5681 gives the first window.
+/// The strictest level at which a trace with this header can be judged: version 6 doesn't judge the congestion window.
+pub(crate) fn strictest_level(header: &Header) -> Judged {
+    if header.version.says_sender() {
+        Judged::Recovery
+    } else {
+        Judged::Full
+    }
+}
+
+/// The header in version 5, or 6 if the trace has that, at this level and with this slack. What an older version
+/// doesn't say is read as it is judged: RFC 5681 gives the first window.
 pub(crate) fn header_at(header: &Header, level: Judged, slack: Option<u64>) -> Header {
     let version = match header.version {
         Version::One | Version::Two | Version::Four | Version::Five => Version::Five,
         Version::Three | Version::FourHalf | Version::FiveHalf => Version::FiveHalf,
+        Version::Six | Version::SixHalf => header.version,
     };
     Header {
         version,

@@ -5,6 +5,7 @@ use Rattle.std.proofs.lemmas.Option.{none-some, same_Some}
 use Rattle.std.specs.Prelude.{◌&&◌, ◌||◌, if◌then◌else◌, is_some, nat_lt, not}
 use Rattle.seqno.specs.Numbers.{number_of}
 use Rattle.std.specs.Option.{option_map_or, option_or}
+use Rattle.case_forms.specs.Versions.{says_sender}
 use Rattle.case_forms.specs.States.{is_closed, is_syn_sent}
 use Rattle.case_forms.specs.declared.steps.Step.{Step as WitnessStep}
 use Rattle.case_forms.specs.declared.steps.Witness.{Witness}
@@ -27,7 +28,7 @@ use Rattle.spec_tcp_laws.proofs.Rules.{is_not, map_or_true}
 use Rattle.spec_tcp_laws.proofs.Takes.{taker_there}
 use Rattle.spec_duties.specs.Acknowledge.{acknowledged_after, answered_lately, longest_delay}
 use Rattle.spec_duties.specs.Cases.{Known}
-use Rattle.spec_duties.specs.Dropped.{answering_breaks, asks, has_content, is_ack_range, is_next, is_unacceptable, taking_breaks}
+use Rattle.spec_duties.specs.Dropped.{answering_breaks, asks, has_content, is_ack_range, is_next, is_number, is_unacceptable, reads_old_numbers, taking_breaks}
 use Rattle.spec_duties.specs.End.{end_rules}
 use Rattle.spec_duties.specs.Owed.{owed_after}
 use Rattle.spec_duties.specs.Observations.{at_drop, observe_dropping, observe, unseen}
@@ -42,6 +43,7 @@ use Rattle.kept_duties.specs.Asking.{AcknowledgesUnsent, Asks, CouldBeProcessed,
 use Rattle.kept_duties.specs.Drops.{IsNext, host_before}
 use Rattle.kept_duties.specs.Happens.{Happens, act_at, known_before, world_before}
 use Rattle.kept_duties.specs.Soon.{Answers}
+use Rattle.kept_duties.proofs.Judged.{plain_same}
 use Rattle.kept_duties.proofs.Events.{place_touched}
 use Rattle.kept_duties.proofs.Repeats.{happens_from, owes_of}
 use Rattle.kept_duties.proofs.Runs.{Run, run_keeps}
@@ -53,11 +55,11 @@ use Rattle.kept_duties.proofs.Touched.{Touches, seen, touched, touches_or_not}
 -- ---- what asks
 
 -- the test that duties make, of its parts
-abbrev asks_by : (syn_sent rst ack next : Bool) → Option Rule → Bool
-asks_by syn_sent rst ack next breaks =
+abbrev asks_by : (old_numbers syn_sent rst ack next : Bool) → Option Rule → Bool
+asks_by old_numbers syn_sent rst ack next breaks =
     not syn_sent
     && (if rst then not (is_some breaks) && (rst && not syn_sent && not next)
-    else is_unacceptable breaks || is_ack_range breaks && ack || not (is_some breaks))
+    else is_unacceptable breaks || is_ack_range breaks && ack || not (is_some breaks) || old_numbers && is_number breaks)
 
 not_next : (e : Endpoint) (m : Emission) → (IsNext e m → ⊥) → is_next e m ≡ false
 not_next e m other =
@@ -65,11 +67,12 @@ not_next e m other =
     let f = map_or_true e.irs (λ irs. same_word m.seq (number_of irs (rcv_nxt e))) is in
     other (f.0, f.1, f.2))
 
-asks_is : (breaks : Option Rule) (e : Endpoint) (m : Emission) → is_syn_sent e.state ≡ false → Asks breaks e m → asks m breaks e ≡ true
-asks_is breaks e m sent (IsUnacceptable rst is) = λ i. asks_by (sent i) (rst i) m.flags.ack (is_next e m) (is i)
-asks_is breaks e m sent (AcknowledgesUnsent rst ack is) = λ i. asks_by (sent i) (rst i) (ack i) (is_next e m) (is i)
-asks_is breaks e m sent (CouldBeProcessed rst is) = λ i. asks_by (sent i) (rst i) m.flags.ack (is_next e m) (is i)
-asks_is breaks e m sent (IsChallenged rst other is) = λ i. asks_by (sent i) (rst i) m.flags.ack (not_next e m other i) (is i)
+asks_is : (old_numbers : Bool) (breaks : Option Rule) (e : Endpoint) (m : Emission) → is_syn_sent e.state ≡ false → Asks breaks e m
+    → asks old_numbers m breaks e ≡ true
+asks_is old breaks e m sent (IsUnacceptable rst is) = λ i. asks_by old (sent i) (rst i) m.flags.ack (is_next e m) (is i)
+asks_is old breaks e m sent (AcknowledgesUnsent rst ack is) = λ i. asks_by old (sent i) (rst i) (ack i) (is_next e m) (is i)
+asks_is old breaks e m sent (CouldBeProcessed rst is) = λ i. asks_by old (sent i) (rst i) m.flags.ack (is_next e m) (is i)
+asks_is old breaks e m sent (IsChallenged rst other is) = λ i. asks_by old (sent i) (rst i) m.flags.ack (not_next e m other i) (is i)
 
 -- the duty arises
 asks_begins : (unlimited : Bool) (before after : View) (moment : ℕ) (listener : Option ℕ) (counts : Bool) (o : Owed)
@@ -175,7 +178,8 @@ module _ (t : Trace) (w : Witness) (slack : ℕ) (r : Run t.header slack (length
   -- ---- the `K` step
 
   drop_happens : (place moment line : ℕ) (me : EndpointId) (m : Emission) (e : Endpoint) → DropsAt t w place moment line me m e
-      → Happens t w place moment me (Drops (asks m (taking_breaks t.header moment (world_before t w place) me.host line) e) (has_content m))
+      → Happens t w place moment me (Drops (asks (reads_old_numbers t.header.version) m
+      (taking_breaks t.header moment (world_before t w place) me.host line) e) (has_content m))
   drop_happens place moment line me m e at = record {
     act = record { moment = moment; step = At me.host (network.Drops line) };
     is = ap (λ (o : Option WitnessStep). option_map_or (act_of t.header t.lines) o None) at.step.here;
@@ -184,25 +188,27 @@ module _ (t : Trace) (w : Witness) (slack : ℕ) (r : Run t.header slack (length
         let v = world_before t w place in
         let b = host_before t w place me.host in
         let taking = taking_breaks t.header moment v me.host line in
-        ap (λ (o : Option Emission). (on o unseen (λ m. observe_dropping me.host b line taking (answering_breaks t.header v me.host line) m
+        ap (λ (o : Option Emission). (on o unseen (λ m. observe_dropping t.header.version me.host b line taking (answering_breaks t.header v me.host line) m
         (taker b m))).touched) at.waits
-        ∙ ap (λ (k : Taker). at_drop me.host b m taking k) at.comes
-        ∙ place_touched v me.host (Drops (asks m taking e) (has_content m)) me.number e (taker_there b m me.number e at.comes);
+        ∙ ap (λ (k : Taker). at_drop t.header.version me.host b m taking k) at.comes
+        ∙ place_touched v me.host (Drops (asks (reads_old_numbers t.header.version) m taking e) (has_content m)) me.number e
+        (taker_there b m me.number e at.comes);
   }
 
-  pub drops_answered : (placed : Placed t.header t.lines (moves w.steps))
-      → first_broken (end_rules slack (last_moment (moves w.steps)) (known_before t w (length w.steps)).duties
+  pub drops_answered : says_sender t.header.version ≡ false → (placed : Placed t.header t.lines (moves w.steps))
+      → first_broken (end_rules t.header slack (last_moment (moves w.steps)) (known_before t w (length w.steps)).duties
       (known_before t w (length w.steps)).model) ≡ None
       → DropsAreAnswered t w slack
-  drops_answered placed late place moment line me m e at sent asking due =
-      arises t w slack r placed late me (λ o. o.acknowledge) longest_delay Answers (λ l. l.acknowledge) acknowledge_duty place moment
+  drops_answered plain placed late place moment line me m e at sent asking due =
+      arises t w slack r placed late me (λ o. o.acknowledge) longest_delay Answers (λ l. l.acknowledge) acknowledge_duty
+      (plain_same (λ l. l.acknowledge) t.header slack plain) place moment
       (Drops true (has_content m)) happens
       (λ before after now listener counts o is next same old. asks_begins (has_content m) before after now listener counts o (limits now o same old due))
     where
       happens : Happens t w place moment me (Drops true (has_content m))
       happens =
           subst (λ (b : Bool). Happens t w place moment me (Drops b (has_content m)))
-          (asks_is (taking_breaks t.header moment (world_before t w place) me.host line) e m sent asking)
+          (asks_is (reads_old_numbers t.header.version) (taking_breaks t.header moment (world_before t w place) me.host line) e m sent asking)
           (drop_happens place moment line me m e at)
 
       limits : (now : ℕ) (o : Owed) → now ≡ moment → o ≡ owed_by (known_before t w place).duties me.host me.number

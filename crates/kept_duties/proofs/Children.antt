@@ -44,13 +44,14 @@ use Rattle.kept_duties.specs.Happens.{act_at, known_before, seen_before}
 use Rattle.kept_duties.specs.Resets.{ChildrenAreReset, ClosesListener, EndsQuietly, SendsReset, awaits_reset}
 use Rattle.kept_duties.specs.Segments.{EndsBy}
 use Rattle.kept_duties.specs.Soon.{HappensBy, IsDoneUnless}
+use Rattle.kept_duties.proofs.Judged.{reset_same}
 use Rattle.kept_duties.proofs.Inbox.{not_late}
 use Rattle.kept_duties.proofs.Repeats.{goes_of, happens_from, happens_to, owes_of}
 use Rattle.kept_duties.proofs.Resets.{began_at, closed_in, late_reset, reset_is, reset_wait, sends_from}
 use Rattle.kept_duties.proofs.Runs.{Goes, Run, run_keeps, world_is}
 use Rattle.kept_duties.proofs.Segments.{within}
 use Rattle.kept_duties.proofs.Since.{began_low, from_step, sel_all, steady_at}
-use Rattle.kept_duties.proofs.Touched.{Owes, Touches, seen, touched, touches_or_not}
+use Rattle.kept_duties.proofs.Touched.{Owes, Touches, lates_plain, seen, touched, touches_or_not}
 
 -- ---- a listener stays closed
 
@@ -152,7 +153,7 @@ owed_since d host l moment v None awaits closed low =
 
 module _ (t : Trace) (w : Witness) (slack : ℕ) (r : Run t.header slack (length w.steps) (act_at t w) (known_before t w))
     (placed : Placed t.header t.lines (moves w.steps))
-    (late : first_broken (end_rules slack (last_moment (moves w.steps)) (known_before t w (length w.steps)).duties
+    (late : first_broken (end_rules t.header slack (last_moment (moves w.steps)) (known_before t w (length w.steps)).duties
     (known_before t w (length w.steps)).model) ≡ None)
     (place moment l : ℕ) (me : EndpointId) (c : ClosesListener t w place moment me.host l)
     (once : (later now : ℕ) → place < later → ClosesListener t w later now me.host l → ⊥) where
@@ -244,7 +245,9 @@ module _ (t : Trace) (w : Witness) (slack : ℕ) (r : Run t.header slack (length
           soon : y.moment ≤ moment + slack
           soon =
               let le = not_late slack since.0 y.moment (reset_since before owes.listener o.reset) since_is
-              (sym (late_reset slack y.moment before owes.listener o) ∙ owes.lates.1.1.1.1.1.0) in
+              (sym (late_reset slack y.moment before owes.listener o)
+              ∙ lates_plain (λ l. l.reset) t.header slack (known_before t w j) (known_before t w (suc j)) y me touch.event owes
+              (reset_same t.header slack) owes.lates.1.1.1.1.1.0) in
               let old = since.2 in
               omega (arith, le, old)
 
@@ -274,7 +277,7 @@ module _ (t : Trace) (w : Witness) (slack : ℕ) (r : Run t.header slack (length
           test false none =
               let old = since.2 in
               later (from_step t w slack r placed me (λ o. o.reset ≡ Some since.0) SendsReset (λ v. false) (λ l. l.reset) j (moment + slack)
-              (reset_wait since.0 (moment + slack) slack (omega (arith, old))) late y.moment touch.event
+              (reset_wait since.0 (moment + slack) slack (omega (arith, old))) (reset_same t.header slack) late y.moment touch.event
               (happens_from t w j y me touch.event at touch.shows) refl
               (ap (λ (o : Owed). o.reset) owes.after
               ∙ reset_is touch.event before after' y.moment owes.listener owes.counts o
@@ -335,8 +338,9 @@ module _ (t : Trace) (w : Witness) (slack : ℕ) (r : Run t.header slack (length
           let k = known_before t w (length w.steps) in
           let e = pending.there in
           let o = owed_by k.duties me.host me.number in
-          let none = (none_all (end_rules slack last k.duties k.model) late).1.1.1.1.1.1.0 in
-          let here = sel_all (λ l. l.reset) (λ a b. refl) slack last k.duties k.model none me e.0 e.1 in
+          let none = (none_all (end_rules t.header slack last k.duties k.model) late).1.1.1.1.1.1.1.0 in
+          let here = sym (reset_same t.header slack last k.duties None me.host me.number (view_of e.0))
+          ∙ sel_all (λ l. l.reset) (λ a b. refl) t.header slack last k.duties k.model none me e.0 e.1 in
           let awaits : awaits_reset l (view_of e.0) ≡ true =
           sym (ap (λ (o : Option Endpoint). awaits_reset l (option_map_or view_of o unborn)) e.1) ∙ pending.awaits in
           let since = owed_since k.duties me.host l moment (view_of e.0) o.reset awaits pending.closed pending.low in
@@ -347,7 +351,7 @@ module _ (t : Trace) (w : Witness) (slack : ℕ) (r : Run t.header slack (length
 
 pub children_reset : (t : Trace) (w : Witness) (slack : ℕ) (r : Run t.header slack (length w.steps) (act_at t w) (known_before t w))
     (placed : Placed t.header t.lines (moves w.steps))
-    → first_broken (end_rules slack (last_moment (moves w.steps)) (known_before t w (length w.steps)).duties
+    → first_broken (end_rules t.header slack (last_moment (moves w.steps)) (known_before t w (length w.steps)).duties
     (known_before t w (length w.steps)).model) ≡ None
     → ChildrenAreReset t w slack
 children_reset t w slack r placed late place moment l me c once awaits = child_reset t w slack r placed late place moment l me c once awaits

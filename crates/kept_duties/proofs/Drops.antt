@@ -1,11 +1,13 @@
 -- A dropped segment need neither be processed nor answered.
-use Rattle.std.proofs.Common.{◌≡◌, ℕ, ◌+◌, ◌<◌, ◌⊎◌, inl, inr, Bool, true, false, length, Option, Some, None, refl, ap, sym, subst, ◌∙◌, arith}
+use Rattle.std.proofs.Common.{◌≡◌, ℕ, ◌+◌, ◌-◌, ◌<◌, ◌⊎◌, inl, inr, Bool, true, false, length, Option, Some, None, refl, ap, sym, subst, ◌∙◌, arith}
 use Rattle.std.proofs.lemmas.Bool.Decides.{nat_tests}
 use Rattle.std.proofs.lemmas.Option.{slice_get_within}
 use Rattle.std.specs.Prelude.{◌==◌, ◌&&◌, ◌||◌, if◌then◌else◌, is_some, nat_le, nat_lt, not, slice_get}
+use Rattle.seqno.specs.Near.{near_position}
 use Rattle.seqno.specs.Numbers.{number_of}
 use Rattle.seqno.specs.declared.word.Word.{Word}
-use Rattle.case_forms.specs.States.{is_syn_sent}
+use Rattle.case_forms.specs.States.{is_syn_received, is_syn_sent}
+use Rattle.case_forms.specs.Versions.{is_half, says_sender}
 use Rattle.std.specs.Option.{option_map_or}
 use Rattle.case_forms.specs.declared.calls.Host.{Host}
 use Rattle.case_forms.specs.declared.calls.State.{State}
@@ -27,12 +29,14 @@ use Rattle.spec_tcp.specs.Same.{same_word}
 use Rattle.spec_tcp.specs.declared.endpoint.Emission.{Emission}
 use Rattle.spec_tcp.specs.declared.endpoint.Endpoint.{Endpoint}
 use Rattle.spec_tcp.specs.declared.endpoint.Listener.{Listener}
-use Rattle.spec_tcp_laws.proofs.Rules.{both_true, less_to, not_false, not_true, on_passes, true_false, zero_from}
-use Rattle.spec_duties.specs.Dropped.{answering_breaks, discards, discards_at, dropping_of, holds_next, is_challenged, is_next, is_unacceptable}
+use Rattle.spec_tcp_laws.proofs.Rules.{both_true, less_to, map_or_true, not_false, not_true, on_passes, true_false, zero_from}
+use Rattle.spec_duties.specs.Dropped.{acknowledges_less, answering_breaks, discards, discards_at, dropping_of, holds_next, is_below_irs}
+use Rattle.spec_duties.specs.Dropped.{is_challenged, is_next, is_old, is_unacceptable}
 use Rattle.spec_duties.specs.Dropped.{keeps_order, meets_closed_window, droppable_by, taking_breaks}
 use Rattle.spec_duties.specs.Observations.{observe_dropping, observe, observe_taking, unseen}
 use Rattle.spec_duties.specs.Watching.{drops_needed, duty_rules, is_droppable}
 use Rattle.spec_duties.specs.declared.observations.Droppable.TheVariants as droppables
+use Rattle.kept_duties.specs.Drops.{AcknowledgesLess, HasOldNumber}
 use Rattle.kept_duties.specs.Drops.{ByListener, DropsAreLawful, HoldsNext, IsChallenged, MayBeDropped, IsDroppable, MeetsClosedWindow, NextIsKept}
 use Rattle.kept_duties.specs.Drops.{host_before, keeps_next}
 use Rattle.kept_duties.proofs.Soon.{either_true}
@@ -84,13 +88,31 @@ kept_of choice e m next fine = by choice.keep refl
 
 module _ (t : Trace) (w : Witness) (slack : ℕ) (r : Run t.header slack (length w.steps) (act_at t w) (known_before t w)) where
   droppable : (place : ℕ) (host : Host) (m : Emission) → is_droppable (known_before t w place).duties host
-      (droppable_by (host_before t w place host) m (taker (host_before t w place host) m)) ≡ true
+      (droppable_by t.header.version (host_before t w place host) m (taker (host_before t w place host) m)) ≡ true
       → IsDroppable t w place host m
   droppable place host m = by (taker (host_before t w place host) m) refl
     where
-      ends : (c : Bool) → (is_droppable (known_before t w place).duties host (if c then droppables.Yes else droppables.No)) ≡ true → c ≡ true
-      ends true e = refl
-      ends false e = absurd cc
+      ends : (a c : Bool) (i behind : ℕ)
+          → is_droppable (known_before t w place).duties host
+          (if a then droppables.Yes else if c then droppables.IfStale i behind else droppables.No) ≡ true
+          → (a ≡ true) ⊎ (c ≡ true)
+      ends true c i behind e = inl refl
+      ends false true i behind e = inr refl
+      ends false false i behind e = absurd cc
+
+      -- it acknowledges less than is acknowledged
+      less : (i : ℕ) (f : Endpoint) → taker (host_before t w place host) m ≡ AtEndpoint i f → acknowledges_less t.header.version f m ≡ true
+          → IsDroppable t w place host m
+      less i f goes is =
+          let read = as_read t.header.version f m in
+          let six = says_sender t.header.version in
+          let early = six && not (is_syn_sent f.state) && not (is_syn_received f.state) in
+          let a = both_true (early && m.flags.ack && not m.flags.rst) (nat_lt read.ack f.stream.snd_una) is in
+          let b = both_true (early && m.flags.ack) (not m.flags.rst) a.0 in
+          let c = both_true early m.flags.ack b.0 in
+          let d = both_true (six && not (is_syn_sent f.state)) (not (is_syn_received f.state)) c.0 in
+          let e = both_true six (not (is_syn_sent f.state)) d.0 in
+          AcknowledgesLess i f e.0 goes c.1 (not_true m.flags.rst b.1) (let lt = a.1 in grind (arith, nat_tests, lt))
 
       challenged : (i : ℕ) (f : Endpoint) → taker (host_before t w place host) m ≡ AtEndpoint i f → is_challenged f m ≡ true → IsDroppable t w place host m
       challenged i f goes is =
@@ -108,9 +130,12 @@ module _ (t : Trace) (w : Witness) (slack : ℕ) (r : Run t.header slack (length
           MeetsClosedWindow i f goes (not_true (is_syn_sent f.state) b.0) (zero_from (receive_window f) b.1) some
 
       at_endpoint : (i : ℕ) (f : Endpoint) → taker (host_before t w place host) m ≡ AtEndpoint i f
-          → (is_challenged f m ≡ true) ⊎ (meets_closed_window f m ≡ true) → IsDroppable t w place host m
-      at_endpoint i f goes (inl is) = challenged i f goes is
-      at_endpoint i f goes (inr is) = shut i f goes is
+          → (is_challenged f m || meets_closed_window f m ≡ true) ⊎ (acknowledges_less t.header.version f m ≡ true) → IsDroppable t w place host m
+      at_endpoint i f goes (inl is) = elim (either_true (is_challenged f m) (meets_closed_window f m) is) [
+        | inl is ↦ challenged i f goes is
+        | inr is ↦ shut i f goes is
+      ]
+      at_endpoint i f goes (inr is) = less i f goes is
 
       full : (l : ℕ) → taker (host_before t w place host) m ≡ AtListener l → (o : Option Listener) → slice_get (host_before t w place host).listeners l ≡ o
           → is_droppable (known_before t w place).duties host (option_map_or (λ x. droppables.IfFull l x.backlog) o droppables.No) ≡ true
@@ -119,13 +144,41 @@ module _ (t : Trace) (w : Witness) (slack : ℕ) (r : Run t.header slack (length
       full l goes (Some x) at e = ByListener l x goes at (grind (arith, nat_tests, e))
 
       by : (k : Taker) → taker (host_before t w place host) m ≡ k
-          → is_droppable (known_before t w place).duties host (droppable_by (host_before t w place host) m k)
+          → is_droppable (known_before t w place).duties host (droppable_by t.header.version (host_before t w place host) m k)
           ≡ true
           → IsDroppable t w place host m
       by Nobody goes e = absurd cc
       by (AtListener l) goes e = full l goes (slice_get (host_before t w place host).listeners l) refl e
-      by (AtEndpoint i f) goes e = at_endpoint i f goes (either_true (is_challenged f m) (meets_closed_window f m)
-          (ends (is_challenged f m || meets_closed_window f m) e))
+      by (AtEndpoint i f) goes e =
+          at_endpoint i f goes (ends (is_challenged f m || meets_closed_window f m) (acknowledges_less t.header.version f m) i
+          (f.stream.snd_una - (as_read t.header.version f m).ack) e)
+
+  old_number : (place : ℕ) (host : Host) (m : Emission) → is_old t.header.version m (taker (host_before t w place host) m) ≡ true
+      → HasOldNumber t w place host m
+  old_number place host m = by (taker (host_before t w place host) m) refl
+    where
+      no_position : (o : Option ℕ) → not (is_some o) ≡ true → o ≡ None
+      no_position None e = refl
+      no_position (Some p) e = absurd cc
+
+      by : (k : Taker) → taker (host_before t w place host) m ≡ k → is_old t.header.version m k ≡ true → HasOldNumber t w place host m
+      by Nobody goes e = absurd cc
+      by (AtListener l) goes e = absurd cc
+      by (AtEndpoint i f) goes e =
+          let six = says_sender t.header.version in
+          let a = both_true (six && is_half t.header.version) (is_below_irs f m) e in
+          let b = both_true six (is_half t.header.version) a.0 in
+          let c = map_or_true f.irs (λ irs. not (is_some (near_position (rcv_nxt f) irs m.seq))) a.1 in
+          record {
+            at = i;
+            endpoint = f;
+            irs = c.0;
+            comes = goes;
+            six = b.0;
+            half = b.1;
+            first = c.1;
+            below = no_position (near_position (rcv_nxt f) c.0 m.seq) c.2;
+          }
 
   pub drops_lawful : DropsAreLawful t w
   drops_lawful place moment line host is =
@@ -138,37 +191,51 @@ module _ (t : Trace) (w : Witness) (slack : ℕ) (r : Run t.header slack (length
       by p.0 (subst (λ (v : World tcp_shape). waiting line (pick v.hosts host).inbox ≡ Some p.0) (world_is t w place) p.1)
       (subst (λ (v : World tcp_shape). drops_needed k.duties (Some (dropping_of host (taking_breaks t.header moment v host line)
       (answering_breaks t.header v host line)
-      (droppable_by (pick v.hosts host).body p.0 (taker (pick v.hosts host).body p.0)))) ≡ false) (world_is t w place)
-      (sym (ap (λ (o : Option Emission). drops_needed k.duties (on o unseen (λ m. observe_dropping host (pick k.model.hosts host).body line
+      (droppable_by t.header.version (pick v.hosts host).body p.0 (taker (pick v.hosts host).body p.0))
+      (is_old t.header.version p.0 (taker (pick v.hosts host).body p.0)))) ≡ false) (world_is t w place)
+      (sym (ap (λ (o : Option Emission). drops_needed k.duties (on o unseen (λ m. observe_dropping t.header.version host
+      (pick k.model.hosts host).body line
       (taking_breaks t.header moment k.model host line) (answering_breaks t.header k.model host line) m
       (taker (pick k.model.hosts host).body m))).dropping) p.1) ∙ fine))
     where
       by : (m : Emission) → waiting line (pick (world_before t w place).hosts host).inbox ≡ Some m
           → drops_needed (known_before t w place).duties (Some (dropping_of host (taking_breaks t.header moment (world_before t w place) host line)
-          (answering_breaks t.header (world_before t w place) host line) (droppable_by (host_before t w place host) m (taker (host_before t w place host) m))))
+          (answering_breaks t.header (world_before t w place) host line)
+          (droppable_by t.header.version (host_before t w place host) m (taker (host_before t w place host) m))
+          (is_old t.header.version m (taker (host_before t w place host) m))))
           ≡ false
           → MayBeDropped t w place moment host line
       by m waits none =
           let taking = taking_breaks t.header moment (world_before t w place) host line in
           let answering = answering_breaks t.header (world_before t w place) host line in
-          let s = is_droppable (known_before t w place).duties host (droppable_by (host_before t w place host) m (taker (host_before t w place host) m)) in
-          let both = needed_not (not (is_some taking)) s (not (is_some answering) && not (is_unacceptable taking)) none in
+          let s = is_droppable (known_before t w place).duties host
+          (droppable_by t.header.version (host_before t w place host) m (taker (host_before t w place host) m)) in
+          let old = is_old t.header.version m (taker (host_before t w place host) m) in
+          let both = needed_not (not (is_some taking)) s (not (is_some answering) && not (is_unacceptable taking || old)) none in
           record {
             segment = m;
             waits = waits;
             processing = process both.0;
-            answering = answer (answers_not (is_some answering) (is_unacceptable taking) both.1);
+            answering = answer (answers_not (is_some answering) (is_unacceptable taking || old) both.1);
           }
         where
           answer : (is_some (answering_breaks t.header (world_before t w place) host line) ≡ true)
-              ⊎ (is_unacceptable (taking_breaks t.header moment (world_before t w place) host line) ≡ true)
+              ⊎ (is_unacceptable (taking_breaks t.header moment (world_before t w place) host line)
+              || is_old t.header.version m (taker (host_before t w place host) m) ≡ true)
               → (is_some (answering_breaks t.header (world_before t w place) host line) ≡ true)
               ⊎ (taking_breaks t.header moment (world_before t w place) host line ≡ Some rules.Unacceptable)
+              ⊎ HasOldNumber t w place host m
           answer (inl breaks) = inl breaks
-          answer (inr is) = inr (unacceptable_is (taking_breaks t.header moment (world_before t w place) host line) is)
+          answer (inr is) =
+              elim (either_true (is_unacceptable (taking_breaks t.header moment (world_before t w place) host line))
+              (is_old t.header.version m (taker (host_before t w place host) m)) is) [
+                | inl is ↦ inr (inl (unacceptable_is (taking_breaks t.header moment (world_before t w place) host line) is))
+                | inr is ↦ inr (inr (old_number place host m is))
+              ]
 
           process : (not (is_some (taking_breaks t.header moment (world_before t w place) host line)) ≡ false)
-              ⊎ (is_droppable (known_before t w place).duties host (droppable_by (host_before t w place host) m (taker (host_before t w place host) m)) ≡ true)
+              ⊎ (is_droppable (known_before t w place).duties host
+              (droppable_by t.header.version (host_before t w place host) m (taker (host_before t w place host) m)) ≡ true)
               → (is_some (taking_breaks t.header moment (world_before t w place) host line) ≡ true) ⊎ IsDroppable t w place host m
           process (inl breaks) = inl (not_false (is_some (taking_breaks t.header moment (world_before t w place) host line)) breaks)
           process (inr full) = inr (droppable place host m full)

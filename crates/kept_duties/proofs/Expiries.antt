@@ -4,6 +4,7 @@ use Rattle.std.proofs.Common.{◌∙◌, arith, max}
 use Rattle.std.proofs.lemmas.Bool.Decides.{nat_tests}
 use Rattle.std.specs.Prelude.{◌==◌, ◌&&◌, if◌then◌else◌, nat_lt, not}
 use Rattle.std.specs.Option.{option_map, option_map_or}
+use Rattle.case_forms.specs.Versions.{says_sender}
 use Rattle.case_forms.specs.States.{is_closed}
 use Rattle.case_forms.specs.declared.steps.Witness.{Witness}
 use Rattle.case_forms.specs.declared.trace.Trace.{Trace}
@@ -26,6 +27,7 @@ use Rattle.spec_duties.specs.declared.views.View.{View}
 use Rattle.checker.specs.Seen.{moves}
 use Rattle.kept_duties.specs.Happens.{act_at, known_before, seen_before}
 use Rattle.kept_duties.specs.Expiries.{ExpiriesAreInTime, IsOpenedBy, TimesOut, run_time, runs_on, runs_since}
+use Rattle.kept_duties.proofs.Judged.{plain_same}
 use Rattle.kept_duties.proofs.Inbox.{not_late}
 use Rattle.kept_duties.proofs.Repeats.{happens_from, owes_of}
 use Rattle.kept_duties.proofs.Runs.{Run, run_keeps, world_is}
@@ -172,13 +174,13 @@ module _ (t : Trace) (w : Witness) (slack : ℕ) (r : Run t.header slack (length
               (subst (λ (v : World tcp_shape). (seen v me).snd_wnd ≡ 0) (world_is t w j) shut)
               (subst (λ (v : World tcp_shape). 0 < (seen v me).snd_wnd) (world_is t w (suc j)) more)
 
-  pub expiries_in_time : (placed : Placed t.header t.lines (moves w.steps))
-      → first_broken (end_rules slack (last_moment (moves w.steps)) (known_before t w (length w.steps)).duties
+  pub expiries_in_time : says_sender t.header.version ≡ false → (placed : Placed t.header t.lines (moves w.steps))
+      → first_broken (end_rules t.header slack (last_moment (moves w.steps)) (known_before t w (length w.steps)).duties
       (known_before t w (length w.steps)).model) ≡ None
       → ExpiriesAreInTime t w slack
-  expiries_in_time placed late place moment since from me event a runs low opened =
+  expiries_in_time plain placed late place moment since from me event a runs low opened =
       from_step t w slack r placed me (λ o. o.opened ≤ from) TimesOut (λ v. not (runs_on since first v)) (λ l. l.expire) place
-      (from + run_time first + slack) (expiry_wait since from slack first low) late moment event a
+      (from + run_time first + slack) (expiry_wait since from slack first low) (plain_same (λ l. l.expire) t.header slack plain) late moment event a
       (ap (λ (v : World tcp_shape). not (runs_on since first (seen v me))) (world_is t w (suc place)) ∙ ap not (runs_self since first runs))
       (opened_low me place from (within t w place a.act a.is) opened)
     where

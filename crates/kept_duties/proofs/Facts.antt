@@ -17,6 +17,8 @@ use Rattle.case_forms.specs.declared.trace.Wire.{Wire}
 use Rattle.case_forms.specs.declared.version.Initial.TheVariants.{Rfc5681}
 use Rattle.case_forms.specs.declared.version.Judged.TheVariants.{Full}
 use Rattle.case_forms.specs.declared.version.Version.TheVariants.{Five}
+use Rattle.case_forms.specs.declared.version.Growth.TheVariants.{OneSegment}
+use Rattle.case_forms.specs.declared.version.Sender.TheVariants.{Reno}
 use Rattle.spec_duties.specs.Views.{unborn}
 use Rattle.spec_duties.specs.declared.events.Event.TheVariants as happening
 use Rattle.spec_duties.specs.declared.observations.TouchedEndpoint.{TouchedEndpoint}
@@ -79,6 +81,8 @@ module _ (wire : Wire) where
       initial = Rfc5681;
       congestion = Full;
       slack = Some 30;
+      sender = Reno;
+      growth = OneSegment;
     };
     lines =
         record { number = 11; moment = 12; thread = 1; event = events.Came One wire; span = nowhere }

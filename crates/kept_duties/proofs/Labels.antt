@@ -25,7 +25,7 @@ use Rattle.case_forms.specs.declared.calls.Ports.{Ports}
 use Rattle.case_forms.specs.declared.taken_line.TakenLine.{TakenLine}
 use Rattle.case_forms.specs.declared.taken_line.TakenLine.TheVariants as taken
 use Rattle.case_forms.specs.declared.timer.Timer.{Timer}
-use Rattle.case_forms.specs.declared.timer.Timer.TheVariants.{Giveup, Msl2, Persist, Rto}
+use Rattle.case_forms.specs.declared.timer.Timer.TheVariants.{Giveup, Msl2, Persist, Pto, Rto}
 use Rattle.case_forms.specs.declared.trace.Event.{Event}
 use Rattle.case_forms.specs.declared.trace.Event.TheVariants as events
 use Rattle.case_forms.specs.declared.trace.Header.{Header}
@@ -458,11 +458,13 @@ expired_timer Rto (Two c s) e is = ap timer_of (sym (same_Some (expireds.Rto (re
 expired_timer Persist Bare e is = ap timer_of (sym (same_Some expireds.Persist e is))
 expired_timer Msl2 Bare e is = ap timer_of (sym (same_Some expireds.Msl2 e is))
 expired_timer Giveup Bare e is = ap timer_of (sym (same_Some expireds.Giveup e is))
+expired_timer Pto Bare e is = ap timer_of (sym (same_Some expireds.Pto e is))
 expired_timer timer Bare e is = absurd (none-some e is)
 expired_timer Rto (One a) e is = absurd (none-some e is)
 expired_timer Persist (One a) e is = absurd (none-some e is)
 expired_timer Msl2 (One a) e is = absurd (none-some e is)
 expired_timer Giveup (One a) e is = absurd (none-some e is)
+expired_timer Pto (One a) e is = absurd (none-some e is)
 expired_timer timer (Two a b) e is = absurd (none-some e is)
 
 from_expired : (n thread : ℕ) (e : Event) (x : Extras) (line : ℕ) (host : Host) (ports : Ports) (exp : Expired)
@@ -528,8 +530,11 @@ expired_of version host lport rport Msl2 Bare count = (expireds.Msl2, refl)
 expired_of version host lport rport Msl2 (One a) count = absurd (omega (arith, count))
 expired_of version host lport rport Msl2 (Two a b) count = absurd (omega (arith, count))
 expired_of version host lport rport Giveup Bare count = (expireds.Giveup, refl)
+expired_of version host lport rport Pto Bare count = (expireds.Pto, refl)
 expired_of version host lport rport Giveup (One a) count = absurd (omega (arith, count))
+expired_of version host lport rport Pto (One a) count = absurd (omega (arith, count))
 expired_of version host lport rport Giveup (Two a b) count = absurd (omega (arith, count))
+expired_of version host lport rport Pto (Two a b) count = absurd (omega (arith, count))
 
 -- a `T` line that a step takes is the act of that timer
 pub expiry_act : (t : Trace) (w : Witness) → Placed t.header t.lines (moves w.steps) → (place moment : ℕ) (host : Host) (timer : Timer)

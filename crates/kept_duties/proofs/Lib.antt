@@ -2,7 +2,8 @@ pub mod Runs
 pub mod Observations
 pub mod Inbox
 pub mod Built
-pub mod Labels
+pub mod Judged
+mod Labels
 pub mod Segments
 pub mod Touched
 pub mod Repeats

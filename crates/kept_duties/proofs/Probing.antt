@@ -6,6 +6,7 @@ use Rattle.std.proofs.lemmas.Bool.Decides.{nat_tests}
 use Rattle.std.proofs.lemmas.Option.{none-some}
 use Rattle.std.specs.Prelude.{◌==◌, ◌&&◌, if◌then◌else◌, nat_lt, not}
 use Rattle.std.specs.Option.{option_map, option_map_or}
+use Rattle.case_forms.specs.Versions.{says_sender}
 use Rattle.case_forms.specs.States.{is_closed}
 use Rattle.case_forms.specs.declared.steps.Witness.{Witness}
 use Rattle.case_forms.specs.declared.timer.Timer.TheVariants.{Persist, Rto}
@@ -37,6 +38,7 @@ use Rattle.kept_duties.specs.Counts.{event_for}
 use Rattle.kept_duties.specs.Happens.{act_at, known_before, seen_before, world_before}
 use Rattle.kept_duties.specs.Probes.{Probes, ProbesAreInTime, ProbesIt, awaits_probe, is_probing, is_shut, probe_time}
 use Rattle.kept_duties.specs.Probes.{probes_after, probes_before, probes_by, still_probed}
+use Rattle.kept_duties.proofs.Judged.{plain_same}
 use Rattle.kept_duties.proofs.Counts.{event_here, event_of}
 use Rattle.kept_duties.proofs.Inbox.{not_late}
 use Rattle.kept_duties.proofs.Repeats.{owes_of}
@@ -236,13 +238,14 @@ module _ (t : Trace) (w : Witness) (slack : ℕ) (r : Run t.header slack (length
       (ap (λ (k : Known). (owed_by k.duties me.host me.number).probing) r.start ∙ ap (λ (o : Owed). o.probing) (nothing_first t.header me.host me.number))
       (λ j low less old. agree_next me j (omega (arith, less, high)) old)
 
-  pub probes_in_time : (placed : Placed t.header t.lines (moves w.steps))
-      → first_broken (end_rules slack (last_moment (moves w.steps)) (known_before t w (length w.steps)).duties
+  pub probes_in_time : says_sender t.header.version ≡ false → (placed : Placed t.header t.lines (moves w.steps))
+      → first_broken (end_rules t.header slack (last_moment (moves w.steps)) (known_before t w (length w.steps)).duties
       (known_before t w (length w.steps)).model) ≡ None
       → ProbesAreInTime t w slack
-  probes_in_time placed late place moment me event p a probes low =
+  probes_in_time plain placed late place moment me event p a probes low =
       from_step t w slack r placed me (λ o. o.probing ≡ Some (probing_of p)) ProbesIt (λ v. not (awaits_probe first.timers.rto v)) (λ l. l.probe) place
-      (p.since + probe_time first p.count + slack) (probe_wait first.timers.rto slack p low) late moment event a
+      (p.since + probe_time first p.count + slack) (probe_wait first.timers.rto slack p low)
+      (plain_same (λ l. l.probe) t.header slack plain) late moment event a
       (ap (λ (v : World tcp_shape). not (awaits_probe first.timers.rto (seen v me))) (world_is t w (suc place)) ∙ ap not awaits)
       (agree_at me (suc place) (within t w place a.act a.is) ∙ ap (option_map probing_of) probes)
     where

@@ -44,6 +44,7 @@ use Rattle.kept_duties.specs.Happens.{act_at, known_before}
 use Rattle.kept_duties.specs.Resets.{AbortsAreReset, SendsReset}
 use Rattle.kept_duties.specs.Segments.{EndsBy}
 use Rattle.kept_duties.specs.Soon.{HappensBy, IsDoneUnless}
+use Rattle.kept_duties.proofs.Judged.{reset_same}
 use Rattle.kept_duties.proofs.Inbox.{not_late}
 use Rattle.kept_duties.proofs.Repeats.{happens_to, owes_of}
 use Rattle.kept_duties.proofs.Runs.{Goes, Run, run_keeps, world_is}
@@ -255,7 +256,7 @@ module _ (t : Trace) (w : Witness) (slack : ℕ) (r : Run t.header slack (length
 
   -- ---- from the step on
 
-  pub aborts_reset : first_broken (end_rules slack (last_moment (moves w.steps)) (known_before t w (length w.steps)).duties
+  pub aborts_reset : first_broken (end_rules t.header slack (last_moment (moves w.steps)) (known_before t w (length w.steps)).duties
       (known_before t w (length w.steps)).model) ≡ None → AbortsAreReset t w slack
   aborts_reset late place moment me a resets = done (from_then owed.0 (ap (λ (o : Owed). o.reset) owes.after ∙ owed.1))
     where
@@ -294,7 +295,7 @@ module _ (t : Trace) (w : Witness) (slack : ℕ) (r : Run t.header slack (length
           let old = began_low t w placed place a.act a.is since ((began_at me (suc place) low).1 since now) in
           let time = a.time in
           from_step t w slack r placed me (λ o. o.reset ≡ Some since) SendsReset (λ v. false) (λ l. l.reset) place (moment + slack)
-          (reset_wait since (moment + slack) slack (omega (arith, old, time))) late moment (Calls true) a refl now
+          (reset_wait since (moment + slack) slack (omega (arith, old, time))) (reset_same t.header slack) late moment (Calls true) a refl now
 
       done : IsDoneUnless t w place (moment + slack) me SendsReset (λ v. false) → HappensBy t w place (moment + slack) me SendsReset ⊎ EndsBy w (moment + slack)
       done (inl sends) = inl sends

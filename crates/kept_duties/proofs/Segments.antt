@@ -76,14 +76,16 @@ within t w place x is = let s = step_of_act t w place x is in slice_get_within w
 -- no duty is late at the end
 pub end_fine : (t : Trace) (w : Witness) (slack : ℕ) → t.header.slack ≡ Some slack
     → late_at_end t.header (last_moment (moves w.steps)) (known_after_all t.header (first_known t.header) (stamped t.header t.lines w.steps)) ≡ None
-    → first_broken (end_rules slack (last_moment (moves w.steps)) (known_before t w (length w.steps)).duties (known_before t w (length w.steps)).model) ≡ None
+    → first_broken (end_rules t.header slack (last_moment (moves w.steps)) (known_before t w (length w.steps)).duties
+    (known_before t w (length w.steps)).model) ≡ None
 end_fine t w slack given late =
     let all : known_after_all t.header (first_known t.header) (stamped t.header t.lines w.steps) ≡ known_before t w (length w.steps) =
     ap (λ (ss : List Step). known_after_all t.header (first_known t.header) (stamped t.header t.lines ss)) (sym (take_all w.steps)) in
     let k = known_before t w (length w.steps) in
     let moment = last_moment (moves w.steps) in
-    none_mapped (λ (rule : Rule). (end.line_of (first_waiting slack moment k.duties.inbox) rule, rule)) (first_broken (end_rules slack moment k.duties k.model))
-    (sym (ap (λ o. on o None (λ slack. end.late_at_end slack moment k.duties k.model)) given)
+    none_mapped (λ (rule : Rule). (end.line_of (first_waiting slack moment k.duties.inbox) rule, rule))
+    (first_broken (end_rules t.header slack moment k.duties k.model))
+    (sym (ap (λ o. on o None (λ slack. end.late_at_end t.header slack moment k.duties k.model)) given)
     ∙ sym (ap (λ (k : Known). late_at_end t.header moment k) all) ∙ late)
 
 module _ (t : Trace) (w : Witness) (slack : ℕ) (given : t.header.slack ≡ Some slack)
@@ -177,6 +179,6 @@ module _ (t : Trace) (w : Witness) (slack : ℕ) (given : t.header.slack ≡ Som
         by x time (inr waits) =
             let k = known (length w.steps) in
             let last = last_moment (moves w.steps) in
-            let fine = (none_all (end_rules slack last k.duties k.model) (end_fine t w slack given late)).0 in
+            let fine = (none_all (end_rules t.header slack last k.duties k.model) (end_fine t w slack given late)).0 in
             inr (subst (λ (m : ℕ). last ≤ m + slack) time
             (not_late slack x.moment last (waiting line k.duties.inbox) waits (late_waiting slack last line k.duties.inbox fine)))

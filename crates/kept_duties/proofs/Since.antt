@@ -38,11 +38,12 @@ use Rattle.spec_duties.specs.declared.views.View.{View}
 use Rattle.kept_duties.specs.Happens.{Happens, act_at, known_before, seen_before}
 use Rattle.checker.specs.Seen.{move_of, moves}
 use Rattle.kept_duties.specs.Soon.{BecomesBy, HappensBy, IsDoneUnless}
+use Rattle.kept_duties.proofs.Judged.{IsSame, unbrought}
 use Rattle.kept_duties.proofs.Labels.{builder_is}
 use Rattle.kept_duties.proofs.Repeats.{goes_of, happens_from, happens_to, owes_of}
 use Rattle.kept_duties.proofs.Runs.{Goes, Run, run_keeps, world_is}
 use Rattle.kept_duties.proofs.Segments.{step_of_act, within}
-use Rattle.kept_duties.proofs.Touched.{Owes, Touches, seen, there_after, touched, touches_or_not}
+use Rattle.kept_duties.proofs.Touched.{Owes, Touches, lates_plain, seen, there_after, touched, touches_or_not}
 
 -- what an endpoint is to do: while what it owes is like this, and its state isn't one that ends it, it isn't late by this moment
 pub record Wait (Inv : Owed → Type 0) (Kind : Event → (before after : View) → Type 0) (Is : View → Bool) (sel : Lates → Bool) (slack by : ℕ) : Type 0 where
@@ -76,38 +77,38 @@ wait_of duty slack since by low = record {
 }
 
 -- the comparison at the end looks at each endpoint
-module _ (sel : Lates → Bool) (joins : (a b : Lates) → sel (either a b) ≡ (sel a || sel b)) (slack moment : ℕ) (d : Duties) where
-  sel_from : (host : Host) (place : ℕ) (so_far : Lates) (es : List Endpoint) → sel (lates_from slack moment d host place so_far es) ≡ false
-      → (sel so_far ≡ false) × ((i : ℕ) (e : Endpoint) → slice_get es i ≡ Some e → sel (lates_at slack moment d host (place + i) e) ≡ false)
+module _ (sel : Lates → Bool) (joins : (a b : Lates) → sel (either a b) ≡ (sel a || sel b)) (h : Header) (slack moment : ℕ) (d : Duties) where
+  sel_from : (host : Host) (place : ℕ) (so_far : Lates) (es : List Endpoint) → sel (lates_from h slack moment d host place so_far es) ≡ false
+      → (sel so_far ≡ false) × ((i : ℕ) (e : Endpoint) → slice_get es i ≡ Some e → sel (lates_at h slack moment d host (place + i) e) ≡ false)
   sel_from host place so_far [] none = (none, λ i e at. absurd (none-some e at))
   sel_from host place so_far (x ∷ es) none =
-      let rest = sel_from host (suc place) (either so_far (lates_at slack moment d host place x)) es none in
-      let both = neither (sel so_far) (sel (lates_at slack moment d host place x)) (sym (joins so_far (lates_at slack moment d host place x)) ∙ rest.0) in
+      let rest = sel_from host (suc place) (either so_far (lates_at h slack moment d host place x)) es none in
+      let both = neither (sel so_far) (sel (lates_at h slack moment d host place x)) (sym (joins so_far (lates_at h slack moment d host place x)) ∙ rest.0) in
       (both.0, at both.1 rest.1)
     where
-      at : sel (lates_at slack moment d host place x) ≡ false
-          → ((i : ℕ) (e : Endpoint) → slice_get es i ≡ Some e → sel (lates_at slack moment d host (suc place + i) e) ≡ false)
-          → (i : ℕ) (e : Endpoint) → slice_get (x ∷ es) i ≡ Some e → sel (lates_at slack moment d host (place + i) e) ≡ false
+      at : sel (lates_at h slack moment d host place x) ≡ false
+          → ((i : ℕ) (e : Endpoint) → slice_get es i ≡ Some e → sel (lates_at h slack moment d host (suc place + i) e) ≡ false)
+          → (i : ℕ) (e : Endpoint) → slice_get (x ∷ es) i ≡ Some e → sel (lates_at h slack moment d host (place + i) e) ≡ false
       at first rest zero e is =
           let here : place ≡ place + zero = omega arith in
-          subst (λ (n : ℕ). sel (lates_at slack moment d host n e) ≡ false) here
-          (subst (λ (y : Endpoint). sel (lates_at slack moment d host place y) ≡ false) (same_Some x e is) first)
+          subst (λ (n : ℕ). sel (lates_at h slack moment d host n e) ≡ false) here
+          (subst (λ (y : Endpoint). sel (lates_at h slack moment d host place y) ≡ false) (same_Some x e is) first)
       at first rest (suc i) e is =
           let there : suc place + i ≡ place + suc i = omega arith in
-          subst (λ (n : ℕ). sel (lates_at slack moment d host n e) ≡ false) there (rest i e is)
+          subst (λ (n : ℕ). sel (lates_at h slack moment d host n e) ≡ false) there (rest i e is)
 
-  pub sel_all : (w : World tcp_shape) → sel (lates_of_all slack moment d w) ≡ false
-      → (me : EndpointId) (e : Endpoint) → find w.hosts me ≡ Some e → sel (lates_at slack moment d me.host me.number e) ≡ false
+  pub sel_all : (w : World tcp_shape) → sel (lates_of_all h slack moment d w) ≡ false
+      → (me : EndpointId) (e : Endpoint) → find w.hosts me ≡ Some e → sel (lates_at h slack moment d me.host me.number e) ≡ false
   sel_all w none me e = by me.host
     where
-      by : (host : Host) → slice_get (pick w.hosts host).body.endpoints me.number ≡ Some e → sel (lates_at slack moment d host me.number e) ≡ false
+      by : (host : Host) → slice_get (pick w.hosts host).body.endpoints me.number ≡ Some e → sel (lates_at h slack moment d host me.number e) ≡ false
       by One is =
-          let all = sel_from One 0 (lates_of_host slack moment d w Zero (none_late false)) w.hosts.one.body.endpoints none in
-          subst (λ (n : ℕ). sel (lates_at slack moment d One n e) ≡ false) (zero-add me.number) (all.1 me.number e is)
+          let all = sel_from One 0 (lates_of_host h slack moment d w Zero (none_late false)) w.hosts.one.body.endpoints none in
+          subst (λ (n : ℕ). sel (lates_at h slack moment d One n e) ≡ false) (zero-add me.number) (all.1 me.number e is)
       by Zero is =
-          let all = sel_from One 0 (lates_of_host slack moment d w Zero (none_late false)) w.hosts.one.body.endpoints none in
+          let all = sel_from One 0 (lates_of_host h slack moment d w Zero (none_late false)) w.hosts.one.body.endpoints none in
           let first = sel_from Zero 0 (none_late false) w.hosts.zero.body.endpoints all.0 in
-          subst (λ (n : ℕ). sel (lates_at slack moment d Zero n e) ≡ false) (zero-add me.number) (first.1 me.number e is)
+          subst (λ (n : ℕ). sel (lates_at h slack moment d Zero n e) ≡ false) (zero-add me.number) (first.1 me.number e is)
 
 pub nothing_first : (h : Header) (host : Host) (n : ℕ) → owed_by (first_known h).duties host n ≡ owed.nothing
 nothing_first h Zero n = refl
@@ -223,7 +224,7 @@ module _ (t : Trace) (w : Witness) (slack : ℕ) (r : Run t.header slack (length
   }
 
   module _ (me : EndpointId) (Inv : Owed → Type 0) (Kind : Event → (before after : View) → Type 0) (Is : View → Bool) (sel : Lates → Bool) (i by_then : ℕ)
-      (wait : Wait Inv Kind Is sel slack by_then) where
+      (wait : Wait Inv Kind Is sel slack by_then) (same : IsSame sel t.header slack) where
     -- what is still to be done
     record Still (k : Known) : Type 0 where
       owes : Inv (owed_by k.duties me.host me.number)
@@ -276,7 +277,10 @@ module _ (t : Trace) (w : Witness) (slack : ℕ) (r : Run t.header slack (length
             owes = owes_of t w slack r j y me touch.event at touch.shows
 
             soon : y.moment ≤ by_then
-            soon = wait.fine y.moment before owes.listener (owed_by (known_before t w j).duties me.host me.number) (wait.rules _ owes.lates) still.open'
+            soon =
+                wait.fine y.moment before owes.listener (owed_by (known_before t w j).duties me.host me.number)
+                (lates_plain sel t.header slack (known_before t w j) (known_before t w (suc j)) y me touch.event owes same
+                (wait.rules _ owes.lates)) still.open'
                 still.owes
 
             ends : Kind touch.event before after' ⊎ (Is after' ≡ true)
@@ -297,7 +301,7 @@ module _ (t : Trace) (w : Witness) (slack : ℕ) (r : Run t.header slack (length
             ends (inr (inr on)) = stays (subst Inv (sym owes.after) on) (λ event shows. soon)
 
     -- from a step at the endpoint on to the end
-    pub from_step : (late : first_broken (end_rules slack (last_moment (moves w.steps)) (known_before t w (length w.steps)).duties
+    pub from_step : (late : first_broken (end_rules t.header slack (last_moment (moves w.steps)) (known_before t w (length w.steps)).duties
         (known_before t w (length w.steps)).model) ≡ None) → (moment : ℕ) (event : Event) → Happens t w i moment me event
         → Is (seen (known_before t w (suc i)).model me) ≡ false → Inv (owed_by (known_before t w (suc i)).duties me.host me.number)
         → IsDoneUnless t w i by_then me Kind Is
@@ -320,8 +324,10 @@ module _ (t : Trace) (w : Witness) (slack : ℕ) (r : Run t.header slack (length
             let last = last_moment (moves w.steps) in
             let k = known_before t w (length w.steps) in
             let e = still.there in
-            let none = wait.rules _ (none_all (end_rules slack last k.duties k.model) late).1 in
-            let here = sel_all sel wait.either slack last k.duties k.model none me e.0 e.1 in
+            let none = wait.rules _ (unbrought _ (lates_of_all t.header slack last k.duties k.model)
+            (none_all (end_rules t.header slack last k.duties k.model) late).1.1) in
+            let here = sym (same last k.duties None me.host me.number (view_of e.0))
+            ∙ sel_all sel wait.either t.header slack last k.duties k.model none me e.0 e.1 in
             let open' : Is (view_of e.0) ≡ false =
             sym (ap (λ (o : Option Endpoint). Is (option_map_or view_of o unborn)) e.1) ∙ still.open' in
             inr (inr (wait.fine last (view_of e.0) (listener_closed k.duties me.host (view_of e.0)) (owed_by k.duties me.host me.number) here open' still.owes))

@@ -8,6 +8,7 @@ use Rattle.std.specs.Option.{option_map, option_map_or}
 use Rattle.std.proofs.lemmas.Bool.Decides.{nat_tests}
 use Rattle.std.proofs.lemmas.Option.{none-some, same_Some, slice_get_past}
 use Rattle.indexmap.specs.IndexMap.{insert_entry}
+use Rattle.case_forms.specs.declared.version.Version.{Version}
 use Rattle.case_forms.specs.declared.calls.Answer.{Answer}
 use Rattle.case_forms.specs.declared.calls.Answer.TheVariants as answers
 use Rattle.case_forms.specs.declared.calls.Call.{Call}
@@ -52,14 +53,17 @@ use Rattle.spec_duties.specs.Resent.{is_resent, is_resent_beyond}
 use Rattle.spec_duties.specs.Observations.{observe_accept, at_drop, at_place, at_ports, at_sender, at_target, observe_call, observe_close, observe_effect}
 use Rattle.spec_duties.specs.Observations.{is_done, observe_other, processing_of, sending_of, observe, unseen, view_in}
 use Rattle.spec_duties.specs.Views.{unborn, view_of}
-use Rattle.spec_duties.specs.Watching.{Duties, built_by, counts_now, duty_rules, listener_closed, owed_by, owed_table_after, touched_rules}
+use Rattle.spec_duties.specs.Watching.{Duties, brought_by, built_by, counts_now, duty_rules, judged_lates, listener_closed, owed_by, owed_table_after}
+use Rattle.spec_duties.specs.Watching.{touched_rules}
 use Rattle.spec_duties.specs.declared.events.Event.{Event}
 use Rattle.spec_duties.specs.declared.events.Event.TheVariants as events
+use Rattle.spec_duties.specs.declared.owed.Lates.{Lates}
 use Rattle.spec_duties.specs.declared.owed.Owed.{Owed}
 use Rattle.spec_duties.specs.declared.observations.Queueing.TheVariants as queueing
 use Rattle.spec_duties.specs.declared.observations.Observation.{Observation}
 use Rattle.spec_duties.specs.declared.observations.TouchedEndpoint.{TouchedEndpoint}
 use Rattle.spec_duties.specs.declared.views.View.{View}
+use Rattle.kept_duties.proofs.Judged.{IsSame}
 use Rattle.kept_duties.proofs.Runs.{Goes}
 
 -- an endpoint as duties see it
@@ -161,11 +165,11 @@ target_before w host line how m waits (AtListener l) is = record {
 target_before w host line how m waits (AtEndpoint i e) is = place_before w (At host (Takes line how)) host (processing_of m) i (line, how, refl)
     (λ p e. absurd cc)
 
-drop_before : (w : World tcp_shape) (step : Step tcp_shape) (host : Host) (m : Emission) (taking : Option Rule)
-    → (line : ℕ) × (step ≡ At host (Drops line)) → (t : Taker) → AsBefore w step (at_drop host (pick w.hosts host).body m taking t)
-drop_before w step host m taking does Nobody = tt
-drop_before w step host m taking does (AtListener l) = tt
-drop_before w step host m taking does (AtEndpoint i e) = place_before w step host _ i does (λ p e. absurd cc)
+drop_before : (v : Version) (w : World tcp_shape) (step : Step tcp_shape) (host : Host) (m : Emission) (taking : Option Rule)
+    → (line : ℕ) × (step ≡ At host (Drops line)) → (t : Taker) → AsBefore w step (at_drop v host (pick w.hosts host).body m taking t)
+drop_before v w step host m taking does Nobody = tt
+drop_before v w step host m taking does (AtListener l) = tt
+drop_before v w step host m taking does (AtEndpoint i e) = place_before w step host _ i does (λ p e. absurd cc)
 
 socket_target_before : (w : World tcp_shape) (step : Step tcp_shape) (o : Option SocketTarget) (f : SocketTarget → Observation)
     → ((target : SocketTarget) → AsBefore w step (f target).touched)
@@ -258,7 +262,7 @@ as_before h moment w (At host (Takes line how)) =
     (λ m is. target_before w host line how m is (taker (pick w.hosts host).body m) refl)
 as_before h moment w (At host (Drops line)) =
     on_cases (λ (s : Observation). AsBefore w (At host (Drops line)) s.touched) (waiting line (pick w.hosts host).inbox) unseen _ tt
-    (λ m is. drop_before w (At host (Drops line)) host m (taking_breaks h moment w host line) (line, refl) (taker (pick w.hosts host).body m))
+    (λ m is. drop_before h.version w (At host (Drops line)) host m (taking_breaks h moment w host line) (line, refl) (taker (pick w.hosts host).body m))
 as_before h moment w (At host (Answers line)) = tt
 
 -- ---- whether a step touches an endpoint
@@ -333,12 +337,22 @@ pub record Owes (h : Header) (slack : ℕ) (k next : Known) (x : Stamped tcp_sha
   pub listener : Option ℕ
   pub counted : counts ≡ counts_now (built_by k.duties (observe h x.moment k.model x.step).built_change)
   pub listens : listener ≡ listener_closed k.duties me.host (seen k.model me)
-  pub lates : AllByRecursion (λ r. r.1 ≡ false) (late_rules (lates_of slack x.moment (seen k.model me) listener (owed_by k.duties me.host me.number)))
+  pub brought : Option ℕ
+  pub lates : AllByRecursion (λ r. r.1 ≡ false) (late_rules (judged_lates h slack x.moment k.duties brought me.host me.number (seen k.model me)))
   pub resent : is_resent h.congestion event (seen k.model me) (owed_by k.duties me.host me.number).again ≡ false
   pub beyond : is_resent_beyond h.congestion event (seen k.model me) ≡ false
   pub excess : is_excess counts (owed_by k.duties me.host me.number).answers ≡ false
   pub after : owed_by next.duties me.host me.number
       ≡ owed_after event (seen k.model me) (seen next.model me) x.moment listener counts (owed_by k.duties me.host me.number)
+
+-- what is judged alike by the plain and the stricter duties isn't late by the plain ones
+pub lates_plain : (sel : Lates → Bool) (h : Header) (slack : ℕ) (k next : Known) (x : Stamped tcp_shape) (me : EndpointId) (event : Event)
+    (owes : Owes h slack k next x me event)
+    → IsSame sel h slack → sel (judged_lates h slack x.moment k.duties owes.brought me.host me.number (seen k.model me)) ≡ false
+    → sel (lates_of slack x.moment (seen k.model me) owes.listener (owed_by k.duties me.host me.number)) ≡ false
+lates_plain sel h slack k next x me event owes same none =
+    ap (λ (n : Option ℕ). sel (lates_of slack x.moment (seen k.model me) n (owed_by k.duties me.host me.number))) owes.listens
+    ∙ sym (same x.moment k.duties owes.brought me.host me.number (seen k.model me)) ∙ none
 
 module _ (h : Header) (slack : ℕ) (k next : Known) (x : Stamped tcp_shape) (me : EndpointId) (goes : Goes h slack k next x) where
   abbrev shown : Observation
@@ -349,12 +363,14 @@ module _ (h : Header) (slack : ℕ) (k next : Known) (x : Stamped tcp_shape) (me
   owes_after event shows =
       let rules = (none_all (duty_rules h slack x.moment k.duties shown) goes.dutiful).1.1.1.1 in
       let here =
-      subst (λ (o : Option TouchedEndpoint). AllByRecursion (λ r. r.1 ≡ false) (on o [] (touched_rules h slack x.moment k.duties counts))) shows rules in
+      subst (λ (o : Option TouchedEndpoint). AllByRecursion (λ r. r.1 ≡ false) (on o [] (touched_rules h slack x.moment k.duties counts
+      (brought_by k.duties shown.built_change) shown.sampling))) shows rules in
       record {
         counts = counts;
         listener = listener_closed k.duties me.host (seen k.model me);
         counted = refl;
         listens = refl;
+        brought = brought_by k.duties shown.built_change;
         lates = (here.0, (here.1.0, (here.1.1.0, (here.1.1.1.0, (here.1.1.1.1.0, (here.1.1.1.1.1.0, tt))))));
         resent = here.1.1.1.1.1.1.0;
         beyond = here.1.1.1.1.1.1.1.0;

@@ -1,9 +1,11 @@
 -- What a yes with a slack says of segments that are dropped: neither to process nor to answer them was required; and of
 -- those that are processed: what is next in order was kept (RFC 9293, 3.10.7).
-use Rattle.std.specs.Prelude.{◌≡◌, ◌⊎◌, ◌+◌, ◌<◌, ◌≤◌, ℕ, Bool, true, false, slice_get, Option, Some, is_some}
+use Rattle.std.specs.Prelude.{◌≡◌, ◌⊎◌, ◌+◌, ◌<◌, ◌≤◌, ℕ, Bool, true, false, slice_get, Option, None, Some, is_some}
+use Rattle.seqno.specs.Near.{near_position}
 use Rattle.seqno.specs.Numbers.{number_of}
 use Rattle.seqno.specs.declared.word.Word.{Word}
 use Rattle.case_forms.specs.States.{is_syn_sent}
+use Rattle.case_forms.specs.Versions.{is_half, says_sender}
 use Rattle.case_forms.specs.declared.calls.Host.{Host}
 use Rattle.case_forms.specs.declared.calls.State.{State}
 use Rattle.case_forms.specs.declared.calls.State.TheVariants as states
@@ -60,9 +62,24 @@ pub data IsDroppable (t : Trace) (w : Witness) (place : ℕ) (host : Host) (m : 
       → is_syn_sent e.state ≡ false → m.flags.rst ≡ true → (IsNext e m → ⊥) → IsDroppable t w place host m
   MeetsClosedWindow : (i : ℕ) (e : Endpoint) → taker (host_before t w place host) m ≡ AtEndpoint i e
       → is_syn_sent e.state ≡ false → receive_window e ≡ 0 → 0 < segment_length m → IsDroppable t w place host m
+  -- in version 6, it acknowledges less than is acknowledged: one that is far too old is dropped (RFC 5961, 5.2)
+  AcknowledgesLess : (i : ℕ) (e : Endpoint) → says_sender t.header.version ≡ true
+      → taker (host_before t w place host) m ≡ AtEndpoint i e → m.flags.ack ≡ true → m.flags.rst ≡ false
+      → (as_read t.header.version e m).ack < e.stream.snd_una → IsDroppable t w place host m
   ByListener : (l : ℕ) (x : Listener) → taker (host_before t w place host) m ≡ AtListener l
       → slice_get (host_before t w place host).listeners l ≡ Some x → x.backlog ≤ children_before t w place host l
       → IsDroppable t w place host m
+
+-- in a half case of version 6, its number is below the peer's initial one, so it is an old one
+pub record HasOldNumber (t : Trace) (w : Witness) (place : ℕ) (host : Host) (m : Emission) : Type 0 where
+  pub at : ℕ
+  pub endpoint : Endpoint
+  pub irs : Word
+  pub comes : taker (host_before t w place host) m ≡ AtEndpoint at endpoint
+  pub six : says_sender t.header.version ≡ true
+  pub half : is_half t.header.version ≡ true
+  pub first : endpoint.irs ≡ Some irs
+  pub below : near_position (rcv_nxt endpoint) irs m.seq ≡ None
 
 -- the segment of that line may be dropped at this place
 pub record MayBeDropped (t : Trace) (w : Witness) (place moment : ℕ) (host : Host) (line : ℕ) : Type 0 where
@@ -71,9 +88,11 @@ pub record MayBeDropped (t : Trace) (w : Witness) (place moment : ℕ) (host : H
   -- to process it would break a rule of the model, or the segment need not be processed
   pub processing : (is_some (processing_breaks t w place moment host line) ≡ true)
       ⊎ IsDroppable t w place host segment
-  -- to answer it with a reset would break one, or the segment is unacceptable, so that an acknowledgment is as good
+  -- to answer it with a reset would break one, or the segment is unacceptable or an old one, so that an acknowledgment
+  -- is as good
   pub answering : (is_some (answering_breaks t w place host line) ≡ true)
       ⊎ (processing_breaks t w place moment host line ≡ Some Unacceptable)
+      ⊎ HasOldNumber t w place host segment
 
 -- each `K` step drops a segment that may be dropped
 abbrev pub DropsAreLawful : Trace → Witness → Type 0

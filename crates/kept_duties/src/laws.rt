@@ -1,7 +1,8 @@
 //! What a yes with a slack means for every trace and every witness.
 
-ghost use Rattle.std.specs.Prelude.{◌≡◌, ◌≢◌, ℕ, Some};
+ghost use Rattle.std.specs.Prelude.{◌≡◌, ◌≢◌, ℕ, false, Some};
 ghost use Rattle.case_forms.specs.Traces.{IsTrace};
+ghost use Rattle.case_forms.specs.Versions.{says_sender};
 ghost use Rattle.case_forms.specs.declared.trace.Trace.{Trace};
 ghost use Rattle.case_forms.specs.declared.steps.Witness.{Witness};
 ghost use Rattle.case_forms.specs.declared.version.Judged.TheVariants.{Full, NoControl};
@@ -73,37 +74,39 @@ pub fn acknowledgments_are_few()
         → AcknowledgmentsAreFew t w }
 {}
 
-/// Once an endpoint received something, it sent a segment with ACK or RST at most half a second and the slack later;
-/// unless it was CLOSED, or the last step is at most that much later (RFC 9293, 3.8.6.3; RFC 5681, 4.2).
+/// In versions 1 to 5: once an endpoint received something, it sent a segment with ACK or RST at most half a second and
+/// the slack later; unless it was CLOSED, or the last step is at most that much later (RFC 9293, 3.8.6.3; RFC 5681,
+/// 4.2).
 pub fn receipts_are_answered()
     ensures { (t : Trace) (w : Witness) (slack : ℕ) → Explains t w → t.header.slack ≡ Some slack
-        → ReceiptsAreAnswered t w slack }
+        → says_sender t.header.version ≡ false → ReceiptsAreAnswered t w slack }
 {}
 
-/// Once an endpoint dropped a segment that asks for an acknowledgment, it sent a segment with ACK or RST at most half a
-/// second and the slack later; unless it was CLOSED, or the last step is at most that much later (RFC 9293, 3.10.7.4).
-/// A segment without bytes and FIN may stay unanswered if one with ACK was sent within half a second before (RFC 5961,
-/// 7).
+/// In versions 1 to 5: once an endpoint dropped a segment that asks for an acknowledgment, it sent a segment with ACK
+/// or RST at most half a second and the slack later; unless it was CLOSED, or the last step is at most that much later
+/// (RFC 9293, 3.10.7.4). A segment without bytes and FIN may stay unanswered if one with ACK was sent within half a
+/// second before (RFC 5961, 7).
 pub fn drops_are_answered()
     ensures { (t : Trace) (w : Witness) (slack : ℕ) → Explains t w → t.header.slack ≡ Some slack
-        → DropsAreAnswered t w slack }
+        → says_sender t.header.version ≡ false → DropsAreAnswered t w slack }
 {}
 
-/// A retransmission timer with a timeout below a minute expired at most the timeout and the slack after it was armed or
-/// the window was opened; before the first sample, at most three timeouts. This holds while the window stays open, or
-/// stays closed because nothing was acknowledged yet. It holds unless the timer stopped, was set anew or got another
-/// timeout, the endpoint was CLOSED, or the last step is at most that much later (RFC 6298, 5.1 to 5.3).
+/// In versions 1 to 5: a retransmission timer with a timeout below a minute expired at most the timeout and the slack
+/// after it was armed or the window was opened; before the first sample, at most three timeouts. This holds while the
+/// window stays open, or stays closed because nothing was acknowledged yet. It holds unless the timer stopped, was set
+/// anew or got another timeout, the endpoint was CLOSED, or the last step is at most that much later (RFC 6298, 5.1 to
+/// 5.3).
 pub fn expiries_are_in_time()
     ensures { (t : Trace) (w : Witness) (slack : ℕ) → Explains t w → t.header.slack ≡ Some slack
-        → ExpiriesAreInTime t w slack }
+        → says_sender t.header.version ≡ false → ExpiriesAreInTime t w slack }
 {}
 
-/// A window that is closed while bytes wait or are outstanding was probed at most a timeout and the slack later, then
-/// at most twice as long, and so on, up to a minute; unless it was opened, no work was left, the timeout changed, the
-/// endpoint was CLOSED, or the last step is at most that much later (RFC 9293, 3.8.6.1).
+/// In versions 1 to 5: a window that is closed while bytes wait or are outstanding was probed at most a timeout and the
+/// slack later, then at most twice as long, and so on, up to a minute; unless it was opened, no work was left, the
+/// timeout changed, the endpoint was CLOSED, or the last step is at most that much later (RFC 9293, 3.8.6.1).
 pub fn probes_are_in_time()
     ensures { (t : Trace) (w : Witness) (slack : ℕ) → Explains t w → t.header.slack ≡ Some slack
-        → ProbesAreInTime t w slack }
+        → says_sender t.header.version ≡ false → ProbesAreInTime t w slack }
 {}
 
 /// After `abort` of a connection that then has to be reset, a segment with RST was sent at most the slack later, unless
@@ -121,18 +124,19 @@ pub fn children_are_reset()
         → ChildrenAreReset t w slack }
 {}
 
-/// After each expiry of a retransmission timer, the oldest unacknowledged position was sent again or acknowledged at
-/// most the slack later; unless the endpoint was CLOSED, or the last step is at most that much later (RFC 6298, 5.4).
+/// In versions 1 to 5: after each expiry of a retransmission timer, the oldest unacknowledged position was sent again
+/// or acknowledged at most the slack later; unless the endpoint was CLOSED, or the last step is at most that much later
+/// (RFC 6298, 5.4).
 pub fn expiries_are_followed()
     ensures { (t : Trace) (w : Witness) (slack : ℕ) → Explains t w → t.header.slack ≡ Some slack
-        → ExpiriesAreFollowed t w slack }
+        → says_sender t.header.version ≡ false → ExpiriesAreFollowed t w slack }
 {}
 
-/// After each expiry of a persist timer, any segment was sent or more was acknowledged at most the slack later; unless
-/// the endpoint was CLOSED, or the last step is at most that much later (RFC 9293, 3.8.6.1).
+/// In versions 1 to 5: after each expiry of a persist timer, any segment was sent or more was acknowledged at most the
+/// slack later; unless the endpoint was CLOSED, or the last step is at most that much later (RFC 9293, 3.8.6.1).
 pub fn probes_are_sent()
     ensures { (t : Trace) (w : Witness) (slack : ℕ) → Explains t w → t.header.slack ≡ Some slack
-        → ProbesAreSent t w slack }
+        → says_sender t.header.version ≡ false → ProbesAreSent t w slack }
 {}
 
 /// If something waits to be sent after a step at an endpoint, with nothing outstanding and no window that holds it

@@ -33,6 +33,8 @@ two_hosts versions.Four = omega arith
 two_hosts versions.FourHalf = omega arith
 two_hosts versions.Five = omega arith
 two_hosts versions.FiveHalf = omega arith
+two_hosts versions.Six = omega arith
+two_hosts versions.SixHalf = omega arith
 
 few_hosts : (v : Version) → greatest_host v < 2 ^ 64
 few_hosts v = let two = two_hosts v in omega arith

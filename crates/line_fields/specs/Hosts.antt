@@ -3,8 +3,8 @@ use Rattle.std.specs.Prelude.{◌≤◌, ℕ, ◌==◌, if◌then◌else◌, Res
 use Rattle.case_forms.specs.declared.calls.Host.{Host}
 use Rattle.case_forms.specs.declared.calls.Host.TheVariants.{Zero, One}
 use Rattle.case_forms.specs.declared.version.Version.{Version}
-use Rattle.case_forms.specs.declared.version.Version.TheVariants.{Four, FourHalf, Five, FiveHalf}
-use Rattle.case_forms.specs.Versions.{is_half, says_slack}
+use Rattle.case_forms.specs.declared.version.Version.TheVariants.{Four, FourHalf, Five, FiveHalf, Six, SixHalf}
+use Rattle.case_forms.specs.Versions.{is_half, says_sender, says_slack}
 use Rattle.line_fields.specs.declared.fault.TextFault.{TextFault}
 use Rattle.line_fields.specs.Word.{Rest}
 use Rattle.line_fields.specs.Reading.{◌>>=◌, number_field}
@@ -32,7 +32,13 @@ host_field v r = do
   n ← number_field 0 (greatest_host v) r
   Ok (host_of n.0, n.1)
 
--- version 4 or 5 with this many hosts
+-- the version of one recorded host, or of two, that says no more and no less than this one: 4, 5 or 6
+abbrev pub half_of : Version → Version
+half_of v = if says_sender v then SixHalf else if says_slack v then FiveHalf else FourHalf
+
+abbrev pub whole_of : Version → Version
+whole_of v = if says_sender v then Six else if says_slack v then Five else Four
+
+-- version 4, 5 or 6 with this many hosts
 abbrev pub hosted : Version → ℕ → Version
-hosted v count =
-    if count == 1 then (if says_slack v then FiveHalf else FourHalf) else if says_slack v then Five else Four
+hosted v count = if count == 1 then half_of v else whole_of v

@@ -17,6 +17,7 @@ pub mod States
 pub mod Timers
 pub mod Congestion
 pub mod Slack
+pub mod Sender
 pub mod Answers
 pub mod AnswerFields
 pub mod Forms

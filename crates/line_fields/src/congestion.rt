@@ -2,12 +2,11 @@
 
 ghost use Rattle.std.specs.Prelude.{◌≡◌};
 ghost use Rattle.line_fields.specs.Reading.{Gives};
-ghost use Rattle.line_fields.specs.Choice.{kind_field};
-ghost use Rattle.line_fields.specs.Congestion.{judged_name, all_judged};
+ghost use Rattle.line_fields.specs.Congestion.{judged_field, judged_name, may_judge};
 
 use crate::fault::{FaultKind, TextFault};
 use crate::fields::Fields;
-use case_forms::Judged;
+use case_forms::{Judged, Version};
 
 /// The word for how much of congestion control is judged.
 pub fn judged_name(congestion: Judged) -> &'static str
@@ -20,18 +19,34 @@ pub fn judged_name(congestion: Judged) -> &'static str
     }
 }
 
-/// The next field, which is such a word. The error is Field if it is missing or is another word.
-pub fn judged(fields: &mut Fields) -> Result<Judged, TextFault>
-    ensures { Gives (λ word. (word, fields.new)) result (kind_field judged_name all_judged fields.old) }
+// Whether a header of this version may say so.
+fn may_judge(version: Version, congestion: Judged) -> bool
+    ensures { result ≡ may_judge version congestion }
+{
+    match congestion {
+        Judged::Full => !version.says_sender(),
+        Judged::Recovery | Judged::NoControl => true,
+    }
+}
+
+/// The next field, which is such a word that a header of this version may have: in version 6, not `full`. The error is
+/// Field if it is missing or is another word.
+#[tactic(auto, unfolding(crate::specs::Congestion::judged_field))]
+pub fn judged(fields: &mut Fields, version: Version) -> Result<Judged, TextFault>
+    ensures { Gives (λ word. (word, fields.new)) result (judged_field version fields.old) }
 {
     let name = fields.next()?;
-    if name.is("full") {
-        Ok(Judged::Full)
+    let congestion = if name.is("full") {
+        Judged::Full
     } else if name.is("recovery") {
-        Ok(Judged::Recovery)
+        Judged::Recovery
     } else if name.is("none") {
-        Ok(Judged::NoControl)
+        Judged::NoControl
     } else {
-        Err(name.fault(FaultKind::Field))
+        return Err(name.fault(FaultKind::Field));
+    };
+    if !may_judge(version, congestion) {
+        return Err(name.fault(FaultKind::Field));
     }
+    Ok(congestion)
 }

@@ -15,6 +15,7 @@ pub fn first_text(version: Version) -> &'static str
         Version::Three => "witness 3",
         Version::Four | Version::FourHalf => "witness 4",
         Version::Five | Version::FiveHalf => "witness 5",
+        Version::Six | Version::SixHalf => "witness 6",
     }
 }
 

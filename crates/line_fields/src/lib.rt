@@ -26,6 +26,7 @@
 //! - `hosts`: the numbers of hosts, and how many were recorded
 //! - `states`, `timers`: the names of states and of timers
 //! - `congestion`, `lateness`: how much of congestion control is judged, and how late a host may be
+//! - `control`: the sender's congestion control, and how its window may grow
 //! - `answers`: the answers of calls, which are in both texts
 //! - `output`: words, numbers and answers, appended to a `Vec` as bytes
 #![tactic(auto)]
@@ -33,6 +34,7 @@
 mod answers;
 mod blocks;
 mod congestion;
+mod control;
 mod digits;
 mod fault;
 mod fields;
@@ -52,6 +54,7 @@ mod timers;
 pub use answers::{AnswerWord, answer, answer_law, answer_word_named, plain_answer};
 pub use case_forms::{OutOfMemory, Span};
 pub use congestion::{judged, judged_name};
+pub use control::{growth, growth_name, sender, sender_name};
 pub use digits::hex_onto;
 pub use fault::{FaultKind, SourceFault, TextFault, keep_fault, none_kept};
 pub use fields::{Fields, Token, is_text};

@@ -73,6 +73,8 @@ pub enum Known {
     LowerAck,
     /// The segment received differs in some bytes from a segment that was sent.
     OtherBytes,
+    /// The segment was built and never sent.
+    NeverSent,
     /// The timer is persist and isn't running, the window is open, and data could be sent.
     PersistOpen,
     /// The timer is persist, and isn't running.
@@ -81,6 +83,10 @@ pub enum Known {
     Msl2Off,
     /// The timer is giveup, and isn't running.
     GiveupOff,
+    /// The timer is pto.
+    ProbesForLoss,
+    /// The step undoes a recovery.
+    IsUndone,
     /// The segment acknowledges nothing new, or is a reset.
     NothingNew,
     /// The timer is rto, and expires on time, or the segment comes at that time, if a new acknowledgment didn't restart
@@ -167,6 +173,9 @@ drops data (`keep` 0 in the witness)",
                 "the window grows faster than congestion avoidance allows, or the stack doesn't follow RFC \
 5681",
             Known::OtherBytes => "the wire changed the segment",
+            Known::NeverSent =>
+                "the stack never sends a segment that it built, or the witness builds one that the stack \
+didn't build",
             Known::PersistOpen =>
                 "the stack doesn't send although the window is open, and waits for the persist timer",
             Known::PersistOff =>
@@ -176,6 +185,10 @@ drops data (`keep` 0 in the witness)",
 there, or has it later",
             Known::GiveupOff =>
                 "the stack gives up after fewer than three expiries, or with nothing outstanding",
+            Known::IsUndone => "the witness undoes a recovery, which the model doesn't permit",
+            Known::ProbesForLoss =>
+                "the trace shows a probe for a loss, which the model doesn't permit: without the line, the segment that \
+is sent again needs another reason",
             Known::NothingNew =>
                 "the witness has sample 1 for a reset, or for a segment that acknowledges nothing new",
             Known::NotRestarted =>
@@ -200,6 +213,7 @@ sample",
             Known::Gap => "the capture lost the segments before this one",
             Known::Oversized => JOINED_SEGMENTS,
             Known::OtherBytes => REWRITTEN,
+            Known::NeverSent => "the capture lost the segment",
             Known::NotRestarted | Known::NotDoubled | Known::Unsampled => COARSE_CLOCK,
             Known::BelowMinimum | Known::PersistEarly | Known::Msl2Early => COARSE_CLOCK,
             _ => "",

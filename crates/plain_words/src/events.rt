@@ -2,7 +2,9 @@
 
 use crate::numbers::Numbers;
 use crate::words::{AnswerWords, CallWords, FlagWords, HostName};
-use case_forms::{Event, Flags, Host, Label, Line, NamedLine, Recovery, SegmentPlan, TakeChoice};
+use case_forms::{
+    Event, Flags, Host, Label, Line, NamedLine, Recovery, RecoveryChange, SegmentPlan, TakeChoice,
+};
 use line_fields::timer_name;
 use segment::{Flag, Segment};
 use std::fmt;
@@ -162,7 +164,14 @@ fn recover<W: fmt::Write>(
     recovery: Recovery,
 ) -> fmt::Result {
     let (host, lport, rport) = (HostName(host), recovery.lport, recovery.rport);
-    write!(f, "{host} begins fast recovery at {lport} to {rport}")?;
+    match recovery.change {
+        RecoveryChange::Begins => {
+            write!(f, "{host} begins fast recovery at {lport} to {rport}")?;
+        }
+        RecoveryChange::IsUndone => {
+            write!(f, "{host} undoes a recovery at {lport} to {rport}")?;
+        }
+    }
     write!(
         f,
         ", cwnd {}, ssthresh {}",

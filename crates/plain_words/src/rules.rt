@@ -308,6 +308,7 @@ too early",
                 Known::PersistOff,
                 Known::Msl2Off,
                 Known::GiveupOff,
+                Known::ProbesForLoss,
             ],
             rfc: "6298, 5.1, 5.2; 9293, 3.6.1, 3.8.3, 3.8.6.1",
             ..PLAIN
@@ -329,8 +330,8 @@ too early",
         Rule::Recovery => &Meaning {
             refused: "fast recovery begins where it may not",
             usual: "the stack began after fewer than three duplicate acknowledgments (SACK, early retransmit)",
-            special: &[Known::NothingOutstanding],
-            rfc: "5681, 2, 3.2 (steps 2 to 4)",
+            special: &[Known::NothingOutstanding, Known::IsUndone],
+            rfc: "5681, 2, 3.2 (steps 2 to 4); 4015, 3.2",
             ..PLAIN
         },
         Rule::ScaleUnread => &Meaning {
@@ -372,6 +373,7 @@ memory pressure",
             usual: "the stack holds finished segments back, or the witness builds the segment too early",
             captured: SMALL_SLACK,
             rfc: "9293, 3.10.2, 3.10.7",
+            special: &[Known::NeverSent],
             ..PLAIN
         },
         Rule::AckLate => &Meaning {
@@ -433,6 +435,12 @@ memory pressure",
             usual: "the stack acknowledges one segment several times, or the witness lacks a received segment",
             captured: "the capture lost a received segment",
             rfc: "5681, 4.2",
+            ..PLAIN
+        },
+        Rule::SampleDue => &Meaning {
+            refused: "no round trip is measured, though one is due",
+            usual: "the witness leaves out a sample; a stack has to measure at least one round trip for each flight",
+            rfc: "6298, 3",
             ..PLAIN
         },
     }

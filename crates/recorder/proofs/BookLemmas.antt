@@ -116,7 +116,7 @@ module _ (c : Core) (tick : Tick) (f : Flying tcp_shape) (up : before f.key (key
   came_grows wire = step_grows c (brought c tick f) 0 (At c.recorded.me (Gets (line_to_come c) f.line wire)) brought_grows
 
   recovered_grows : (b d : Core) (ports : _) → Grows c b 0 → IsRecovered b ports d → Grows c d 0
-  recovered_grows b d ports g (inl r) = to c (with_step b (At b.recorded.me (Does r.0))) d 0 r.3 (step_grows c b 0 (At b.recorded.me (Does r.0)) g)
+  recovered_grows b d ports g (inl r) = to c (with_step b (At b.recorded.me (Does r.0))) d 0 r.4 (step_grows c b 0 (At b.recorded.me (Does r.0)) g)
   recovered_grows b d ports g (inr r) = to c b d 0 r.0 g
 
   settled_grows : (b d : Core) (n : ℕ) (ports : _) → Grows c b 0 → IsSettled b n ports d → Grows c d 0

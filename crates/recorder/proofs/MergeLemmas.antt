@@ -76,6 +76,8 @@ first_small versions.Four = omega arith
 first_small versions.FourHalf = omega arith
 first_small versions.Five = omega arith
 first_small versions.FiveHalf = omega arith
+first_small versions.Six = omega arith
+first_small versions.SixHalf = omega arith
 
 pub beside_small : (a b : Recorded) → AreBeside a b → AllSmall (in_order a.entries b.entries)
 beside_small a b x =

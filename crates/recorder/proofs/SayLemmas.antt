@@ -103,6 +103,16 @@ expiry_line h moment host line lport rport expireds.Giveup =
       act = λ find at. ap (looked_up extras.Bare) at;
       takes = λ lines at. (_, at, refl);
     }
+expiry_line h moment host line lport rport expireds.Pto =
+    record {
+      line = _;
+      said = refl;
+      number = refl;
+      moment_is = refl;
+      event = refl;
+      act = λ find at. ap (looked_up extras.Bare) at;
+      takes = λ lines at. (_, at, refl);
+    }
 
 -- what comes in names the line that it copies
 abbrev pub IsWholeHostStep : HostStep tcp_shape → Type 0

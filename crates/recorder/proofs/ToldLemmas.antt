@@ -113,8 +113,11 @@ is_taken h line x count = go line.event x count
     go (events.Expired host lport rport timers.Msl2) (extras.One n) c = absurd (omega arith)
     go (events.Expired host lport rport timers.Msl2) (extras.Two m n) c = absurd (omega arith)
     go (events.Expired host lport rport timers.Giveup) extras.Bare c = (_, refl, refl)
+    go (events.Expired host lport rport timers.Pto) extras.Bare c = (_, refl, refl)
     go (events.Expired host lport rport timers.Giveup) (extras.One n) c = absurd (omega arith)
+    go (events.Expired host lport rport timers.Pto) (extras.One n) c = absurd (omega arith)
     go (events.Expired host lport rport timers.Giveup) (extras.Two m n) c = absurd (omega arith)
+    go (events.Expired host lport rport timers.Pto) (extras.Two m n) c = absurd (omega arith)
 
 -- the act of a line that was found
 abbrev found_act : ℕ → Option TakenLine → Option (Stamped tcp_shape)

@@ -7,6 +7,8 @@ ghost use Rattle.case_forms.specs.declared.trace.Header.{Header};
 ghost use Rattle.case_forms.specs.declared.version.Version.TheVariants.{One};
 ghost use Rattle.case_forms.specs.declared.version.Initial.TheVariants.{Rfc5681};
 ghost use Rattle.case_forms.specs.declared.version.Judged.TheVariants.{Full};
+ghost use Rattle.case_forms.specs.declared.version.Growth.TheVariants.{OneSegment};
+ghost use Rattle.case_forms.specs.declared.version.Sender.TheVariants.{Reno};
 
 use crate::host_book::HostBook;
 use std::marker::{Brand, PhantomData};
@@ -32,6 +34,8 @@ impl Site for Brand {
       initial = Rfc5681;
       congestion = Full;
       slack = None;
+      sender = Reno;
+      growth = OneSegment;
     } };
 }
 

@@ -121,7 +121,7 @@ fn growth_of(expired: Expired) -> Extras
 {
     match expired {
         Expired::Rto(growth) => Extras::Two(growth.cwnd, growth.ssthresh),
-        Expired::Persist | Expired::Msl2 | Expired::Giveup => Extras::Bare,
+        Expired::Persist | Expired::Msl2 | Expired::Giveup | Expired::Pto => Extras::Bare,
     }
 }
 

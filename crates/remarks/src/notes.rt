@@ -98,7 +98,7 @@ impl Note {
                 self.add_probe(now.moment);
                 self.permits.add(Permit::Persist(now.line));
             }
-            Timer::Msl2 | Timer::Giveup => {}
+            Timer::Msl2 | Timer::Giveup | Timer::Pto => {}
         }
     }
 

@@ -2,10 +2,10 @@
 
 use crate::case::Refusal;
 use crate::replay::Replay;
-use case_forms::Host;
+use case_forms::{Header, Host};
 use duties::{
-    Duties, acknowledge_due, admits_lates, expiry_due, is_late_at_once, lates_of, probing_due,
-    reset_since, start_due, view_of,
+    Duties, acknowledge_due, admits_lates, coarse_expiry_due, coarse_probing_due, expiry_due,
+    is_late_at_once, probing_due, reset_since, start_due, view_of,
 };
 use spec_duties::{Owed, View};
 use spec_tcp::{Endpoint, EndpointId};
@@ -59,27 +59,64 @@ impl Debt {
 }
 
 /// What an endpoint owes, in the order of the rules. A closed one owes no more than a reset.
-pub fn debts_of(duties: &Duties, id: EndpointId, endpoint: &Endpoint) -> [Option<Debt>; 7] {
-    let (view, owed) = (view_of(endpoint), duties.owed_by(id.host, id.number));
+pub fn debts_of(
+    header: &Header,
+    duties: &Duties,
+    id: EndpointId,
+    endpoint: &Endpoint,
+) -> [Option<Debt>; 7] {
+    let (view, owed) = (view_of(endpoint), owed_as_judged(header, duties, id));
     let closed = duties.listener_closed(id.host, &view);
     let since = reset_since(&view, closed, owed.reset);
     let reset = Debt::at_once(Rule::ResetLate, "a reset", since);
     if view.state.is_closed() {
         [None, None, None, None, None, None, reset]
     } else {
-        debts_of_open(&view, &owed, reset)
+        debts_of_open(header, &view, &owed, reset)
+    }
+}
+
+// What an endpoint owes, in version 6 by the stricter duties.
+fn owed_as_judged(header: &Header, duties: &Duties, id: EndpointId) -> Owed {
+    let owed = duties.owed_by(id.host, id.number);
+    if !header.version.says_sender() {
+        return owed;
+    }
+    let strict = duties.strict_by(id.host, id.number);
+    Owed {
+        acknowledge: strict.acknowledge,
+        opened: strict.restarted,
+        retransmit: strict.retransmit,
+        probe: strict.probe,
+        ..owed
+    }
+}
+
+// By when the retransmission timer has to expire, and by when the next probe is due.
+fn timer_deadlines(header: &Header, view: &View, owed: &Owed) -> (Option<u128>, Option<u128>) {
+    if header.version.says_sender() {
+        let expiry = coarse_expiry_due(header.grain, view, owed.opened);
+        (expiry, coarse_probing_due(header.grain, view, owed.probing))
+    } else {
+        (
+            expiry_due(view, owed.opened),
+            probing_due(view, owed.probing),
+        )
     }
 }
 
 // The retransmission timer runs since it was armed, or since the window was opened if that was later.
-fn debts_of_open(view: &View, owed: &Owed, reset: Option<Debt>) -> [Option<Debt>; 7] {
+fn debts_of_open(
+    header: &Header,
+    view: &View,
+    owed: &Owed,
+    reset: Option<Debt>,
+) -> [Option<Debt>; 7] {
     let armed = view.timers.rto_armed;
-    let (ack, expiry) = (
-        acknowledge_due(owed.acknowledge),
-        expiry_due(view, owed.opened),
-    );
+    let ack = acknowledge_due(owed.acknowledge);
+    let (expiry, probe) = timer_deadlines(header, view, owed);
     let probing = owed.probing.map(|probing| probing.since);
-    let (probe, start) = (probing_due(view, owed.probing), start_due(owed.start));
+    let start = start_due(owed.start);
     let (again, any) = ("a retransmission", "a segment after the expiry of persist");
     [
         Debt::new(Rule::AckLate, "an acknowledgment", owed.acknowledge, ack),
@@ -171,13 +208,12 @@ pub(crate) fn debtor_at(
     let (world, duties) = (watched.world(), watched.duties());
     let slack = world.header().slack?;
     let endpoint = world.body(id.host).endpoint_at(id.number)?;
-    let (view, owed) = (view_of(endpoint), duties.owed_by(id.host, id.number));
-    let closed = duties.listener_closed(id.host, &view);
-    let lates = lates_of(slack, moment, &view, closed, &owed);
+    let header = world.header();
+    let lates = duties.judged_lates(header, slack, moment, None, id, &view_of(endpoint));
     if admits_lates(lates).err() != Some(rule) {
         return None;
     }
-    for debt in debts_of(duties, id, endpoint) {
+    for debt in debts_of(header, duties, id, endpoint) {
         if let Some(debt) = debt
             && debt.rule == rule
             && debt.may_be_late(slack, moment)

@@ -7,7 +7,7 @@
 //! - `texts`: the two texts of a case, and their lines
 //! - `case`: the values of a case and its verdict; where the verdict refuses it
 //! - `replay`: the world and its duties before and after each step; `debts`: what endpoints owe, and what is late;
-//!   `touched`: the endpoint that a step touches
+//!   `unsent`: segments that were built and are late; `touched`: the endpoint that a step touches
 //! - `refusal`: what a verdict refuses, as values; `reasons`: what two rules of sending compare
 //! - `unused_lines`: the lines of a trace, which are read as steps use them
 //! - `calls`: what a call names
@@ -21,6 +21,7 @@ mod refusal;
 mod replay;
 mod texts;
 mod touched;
+mod unsent;
 mod unused_lines;
 
 pub use calls::socket_of;
@@ -30,3 +31,4 @@ pub use reasons::{Reason, congestion_reason, end_of, old_data_reason};
 pub use refusal::{Refused, refused_by};
 pub use replay::{Replay, ReplayFault, has_room};
 pub use texts::{Texts, line_at};
+pub use unsent::Held;

@@ -4,8 +4,9 @@ use crate::debts::{Late, debtor_after, debtor_at};
 use crate::reasons::{Reason, congestion_reason, old_data_reason};
 use crate::replay::{ReplayFault, apply_other, apply_taken};
 use crate::touched::{touched_by_line, touched_by_other};
+use crate::unsent::{held_after, held_at, sent_by};
 use crate::unused_lines::UnusedLines;
-use case_forms::{Extras, Header, Label, NamedLine, Step};
+use case_forms::{Header, Label, Step};
 use endpoint_state::World;
 use spec_step::{Act, act_of};
 use spec_tcp::EndpointId;
@@ -135,10 +136,19 @@ fn refused_after(watched: &Case, moment: u64, no: No) -> Refused {
     let late = if rule == Rule::ProcessLate {
         Late::at_once(watched.duties().waiting_since(line), moment)
     } else {
-        debtor_after(watched, rule, moment).map(|debtor| Late::new(debtor.debt, moment))
+        late_after(watched, rule, moment)
     };
     let reason = late.map_or(Reason::Other, Reason::Late);
     Refused { line, rule, reason }
+}
+
+// What an endpoint or a segment that was never sent is late with after the last step.
+fn late_after(watched: &Case, rule: Rule, moment: u64) -> Option<Late> {
+    if let Some(debtor) = debtor_after(watched, rule, moment) {
+        return Some(Late::new(debtor.debt, moment));
+    }
+    let slack = watched.world().header().slack?;
+    Some(held_after(watched.duties(), slack, rule, moment)?.late)
 }
 
 // What is refused at a step. `after` is the line after the last one used.
@@ -169,24 +179,19 @@ fn late_at<A: BufRead>(
         return Ok(Late::at_once(duties.waiting_since(line_of(step, 0)), at));
     }
     if rule == Rule::SendLate {
-        return Ok(Late::at_once(duties.built_since(built_by(step)), at));
+        return Ok(Late::at_once(duties.built_since(sent_by(step)), at));
     }
     let touched = touched_at(watched.world(), lines, step)?;
-    let debtor = touched.and_then(|id| debtor_at(watched, id, rule, at));
-    Ok(debtor.map(|debtor| Late::new(debtor.debt, at)))
+    match touched.and_then(|id| debtor_at(watched, id, rule, at)) {
+        Some(debtor) => Ok(Some(Late::new(debtor.debt, at))),
+        None => Ok(late_with(watched, step, rule)),
+    }
 }
 
-// The number of the segment that a step sends; 0 if it sends none.
-fn built_by(step: &Step) -> u32 {
-    match &step.label {
-        Label::L(
-            NamedLine {
-                extras: Extras::One(number),
-                ..
-            },
-        ) => *number,
-        _ => 0,
-    }
+// What the segment is late with that a step sends.
+fn late_with(watched: &Case, step: &Step, rule: Rule) -> Option<Late> {
+    let slack = watched.world().header().slack?;
+    Some(held_at(watched.duties(), slack, step, rule)?.late)
 }
 
 // The endpoint that a step touches, whose line is read.
@@ -237,6 +242,6 @@ fn reason_of(world: &World, step: &Step, rule: Rule) -> Reason {
         Rule::Unplaced | Rule::Dropped | Rule::Discarded | Rule::ProcessLate => Reason::Other,
         Rule::SendLate | Rule::AckLate | Rule::ExpiryLate | Rule::ResendLate => Reason::Other,
         Rule::ProbeLate | Rule::StartLate | Rule::ResetLate | Rule::Resent => Reason::Other,
-        Rule::ResentBeyond | Rule::AckExcess => Reason::Other,
+        Rule::ResentBeyond | Rule::AckExcess | Rule::SampleDue => Reason::Other,
     }
 }

@@ -2,6 +2,7 @@
 use Rattle.std.specs.Prelude.{◌≡◌, ℕ, suc, Bool, List, [], ◌∷◌, ◌++◌, Option, None}
 use Rattle.std.specs.Option.{option_map_or}
 use Rattle.case_forms.specs.declared.trace.Header.{Header}
+use Rattle.case_forms.specs.Versions.{says_sender}
 use Rattle.verdict.specs.declared.rule.Rule.{Rule}
 use Rattle.verdict.specs.Rules.{first_broken}
 use Rattle.spec_network.specs.Hosts.{Stamped, Step, World}
@@ -38,7 +39,8 @@ judged_rules h moment d s = on h.slack [] (λ slack. duty_rules h slack moment d
 
 -- what is kept after a step: nothing new at `any`
 abbrev pub noted_by : Header → (moment : ℕ) → (after : World tcp_shape) → Observation → Duties → Duties
-noted_by h moment w s d = on h.slack d (λ slack. duties_after (view_in w s.touched) moment s d)
+noted_by h moment w s d =
+    on h.slack d (λ slack. duties_after (says_sender h.version) (view_in w s.touched) moment s d)
 
 -- the rules of duties at a step
 abbrev pub watch_rules : Header → (moment : ℕ) → Known → Step tcp_shape → List (Rule × Bool)
@@ -62,7 +64,7 @@ known_after_all h k (x ∷ xs) = known_after_all h (known_after h x.moment k x.s
 
 -- the least rule that is broken at the end, with its line
 abbrev pub late_at_end : Header → (moment : ℕ) → Known → Option (ℕ × Rule)
-late_at_end h moment k = on h.slack None (λ slack. end.late_at_end slack moment k.duties k.model)
+late_at_end h moment k = on h.slack None (λ slack. end.late_at_end h slack moment k.duties k.model)
 
 -- what may be discarded is
 abbrev pub forget : Known → Known

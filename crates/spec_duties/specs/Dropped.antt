@@ -1,10 +1,13 @@
 -- Which segments may be dropped, and which of them ask for an acknowledgment (RFC 9293, 3.10.7); and what may not be
 -- discarded.
-use Rattle.std.specs.Prelude.{ℕ, ◌+◌, ◌==◌, nat_le, nat_lt, Bool, true, false, not, ◌&&◌, ◌||◌, if◌then◌else◌, Option}
-use Rattle.std.specs.Prelude.{None, Some, is_some, length, slice_get}
+use Rattle.std.specs.Prelude.{ℕ, ◌+◌, ◌-◌, ◌==◌, nat_le, nat_lt, Bool, true, false, not, ◌&&◌, ◌||◌, if◌then◌else◌}
+use Rattle.std.specs.Prelude.{Option}
+use Rattle.std.specs.Prelude.{Some, is_some, length, slice_get}
 use Rattle.std.specs.Option.{option_map_or}
+use Rattle.seqno.specs.Near.{near_position}
 use Rattle.seqno.specs.Numbers.{number_of}
-use Rattle.case_forms.specs.States.{is_syn_sent}
+use Rattle.case_forms.specs.States.{is_syn_received, is_syn_sent}
+use Rattle.case_forms.specs.Versions.{is_half, says_sender}
 use Rattle.case_forms.specs.declared.calls.Host.{Host}
 use Rattle.case_forms.specs.declared.calls.State.{State}
 use Rattle.case_forms.specs.declared.calls.State.TheVariants as states
@@ -46,6 +49,10 @@ abbrev pub is_unacceptable : Option Rule → Bool
 is_unacceptable (Some rules.Unacceptable) = true
 is_unacceptable _ = false
 
+abbrev pub is_number : Option Rule → Bool
+is_number (Some rules.Number) = true
+is_number _ = false
+
 abbrev pub is_ack_range : Option Rule → Bool
 is_ack_range (Some rules.AckRange) = true
 is_ack_range _ = false
@@ -68,19 +75,44 @@ abbrev pub droppable_at_listener : HostTcp → (place : ℕ) → Droppable
 droppable_at_listener b l =
     option_map_or (λ x. droppable.IfFull l x.backlog) (slice_get b.listeners l) droppable.No
 
-abbrev pub droppable_by : HostTcp → Emission → Taker → Droppable
-droppable_by b m Nobody = droppable.No
-droppable_by b m (AtListener l) = droppable_at_listener b l
-droppable_by b m (AtEndpoint i e) = if is_challenged e m || meets_closed_window e m then droppable.Yes else droppable.No
+-- an acknowledgment of less than what is unacknowledged; in version 6 one that is far too old must be dropped (RFC
+-- 5961, 5.2), and how far that is depends on the windows that the peer offered
+abbrev pub acknowledges_less : Version → Endpoint → Emission → Bool
+acknowledges_less v e m =
+    says_sender v && not (is_syn_sent e.state) && not (is_syn_received e.state) && m.flags.ack && not m.flags.rst
+    && nat_lt (as_read v e m).ack e.stream.snd_una
+
+abbrev pub droppable_at_endpoint : Version → Emission → (place : ℕ) → Endpoint → Droppable
+droppable_at_endpoint v m i e =
+    if is_challenged e m || meets_closed_window e m then droppable.Yes
+    else if acknowledges_less v e m then droppable.IfStale i (e.stream.snd_una - (as_read v e m).ack)
+    else droppable.No
+
+abbrev pub droppable_by : Version → HostTcp → Emission → Taker → Droppable
+droppable_by v b m Nobody = droppable.No
+droppable_by v b m (AtListener l) = droppable_at_listener b l
+droppable_by v b m (AtEndpoint i e) = droppable_at_endpoint v m i e
+
+-- in half cases of version 6, a number below the peer's initial one is an old one, not one that can't be read
+abbrev pub reads_old_numbers : Version → Bool
+reads_old_numbers v = says_sender v && is_half v
+
+abbrev pub is_below_irs : Endpoint → Emission → Bool
+is_below_irs e m = option_map_or (λ irs. not (is_some (near_position (rcv_nxt e) irs m.seq))) e.irs false
+
+abbrev pub is_old : Version → Emission → Taker → Bool
+is_old v m Nobody = false
+is_old v m (AtListener l) = false
+is_old v m (AtEndpoint i e) = reads_old_numbers v && is_below_irs e m
 
 -- what a step that drops a segment shows of it: it has to be answered with a reset if that is permitted, unless an
 -- acknowledgment is as good
-abbrev pub dropping_of : Host → (taking answering : Option Rule) → Droppable → Dropping
-dropping_of host taking answering given = record {
+abbrev pub dropping_of : Host → (taking answering : Option Rule) → Droppable → (old : Bool) → Dropping
+dropping_of host taking answering given old = record {
   host = host;
   takeable = not (is_some taking);
   droppable = given;
-  answerable = not (is_some answering) && not (is_unacceptable taking);
+  answerable = not (is_some answering) && not (is_unacceptable taking || old);
 }
 
 -- the segment has bytes or a FIN
@@ -89,11 +121,12 @@ has_content m = nat_lt 0 (length m.payload) || m.flags.fin
 
 -- a dropped segment asks for an acknowledgment: it is unacceptable, or acknowledges what was never sent, or could be
 -- processed; a reset only if it could be, and is challenged (RFC 9293, 3.10.7.4, first, second and fifth)
-abbrev pub asks : Emission → (taking : Option Rule) → Endpoint → Bool
-asks m taking e =
+abbrev pub asks : (old_numbers : Bool) → Emission → (taking : Option Rule) → Endpoint → Bool
+asks old_numbers m taking e =
     not (is_syn_sent e.state)
     && (if m.flags.rst then not (is_some taking) && is_challenged e m
-    else is_unacceptable taking || is_ack_range taking && m.flags.ack || not (is_some taking))
+    else is_unacceptable taking || is_ack_range taking && m.flags.ack || not (is_some taking)
+    || old_numbers && is_number taking)
 
 -- the states in which what is next in order is kept (RFC 9293, 3.10.7.4, seventh)
 abbrev pub keeps_order : State → Bool

@@ -6,7 +6,7 @@ use Rattle.case_forms.specs.declared.calls.State.TheVariants as states
 use Rattle.case_forms.specs.declared.steps.SegmentPlan.{SegmentPlan}
 use Rattle.spec_tcp.specs.Bounds.{most_steps}
 use Rattle.spec_duties.specs.Views.{View}
-use Rattle.spec_duties.specs.Events.{Event, Processes, Drops, Sends}
+use Rattle.spec_duties.specs.Events.{Event, Processes, Drops}
 
 -- one more, up to the greatest number of steps of a case
 abbrev pub one_more : ℕ → ℕ

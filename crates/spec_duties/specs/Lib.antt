@@ -10,6 +10,8 @@ pub mod Reset
 pub mod Resent
 pub mod Excess
 pub mod Owed
+pub mod Sampling
+pub mod Strict
 pub mod Dropped
 pub mod Observations
 pub mod Watching

@@ -1,5 +1,5 @@
 -- All that duties read of the world at a step.
-use Rattle.std.specs.Prelude.{ℕ, suc, nat_eq, Bool, true, false, not, if◌then◌else◌, List, [], ◌∷◌, length, Option}
+use Rattle.std.specs.Prelude.{ℕ, suc, nat_eq, Bool, true, false, if◌then◌else◌, List, [], ◌∷◌, length, Option}
 use Rattle.std.specs.Prelude.{None}
 use Rattle.std.specs.Prelude.{Some, slice_get}
 use Rattle.std.specs.Map.{lookup}
@@ -13,11 +13,12 @@ use Rattle.case_forms.specs.declared.calls.Call.TheVariants as calls
 use Rattle.case_forms.specs.declared.calls.Host.{Host}
 use Rattle.case_forms.specs.declared.steps.TakeChoice.{TakeChoice}
 use Rattle.case_forms.specs.declared.trace.Header.{Header}
+use Rattle.case_forms.specs.declared.version.Version.{Version}
 use Rattle.verdict.specs.declared.rule.Rule.{Rule}
 use Rattle.spec_network.specs.HostRules.{aim_of}
 use Rattle.spec_network.specs.Hosts as network
 use Rattle.spec_network.specs.Hosts.{World, HostState, HostStep, Step, Turn, Idle, Called, Answered, turn_of}
-use Rattle.spec_network.specs.Tables.{Both, on, pick, waiting}
+use Rattle.spec_network.specs.Tables.{on, pick, waiting}
 use Rattle.spec_tcp.specs.Arrives.{Taker, Nobody, AtListener, AtEndpoint, taker}
 use Rattle.spec_tcp.specs.Endpoints.{segment_length}
 use Rattle.spec_tcp.specs.declared.endpoint.Emission.{Emission}
@@ -28,9 +29,11 @@ use Rattle.spec_tcp.specs.Machine.{tcp, tcp_shape, aim}
 use Rattle.spec_duties.specs.Views.{View, view_of, unborn}
 use Rattle.spec_duties.specs.Events as events
 use Rattle.spec_duties.specs.Events.{Event}
-use Rattle.spec_duties.specs.Dropped.{Dropping, taking_breaks, answering_breaks, droppable_by, dropping_of, has_content}
+use Rattle.spec_duties.specs.Dropped.{taking_breaks, answering_breaks, droppable_by, dropping_of, has_content}
 use Rattle.spec_duties.specs.Dropped.{asks}
-use Rattle.spec_duties.specs.Dropped.{discards_at}
+use Rattle.spec_duties.specs.Dropped.{discards_at, is_old, reads_old_numbers}
+use Rattle.spec_duties.specs.Sampling.{sampling_at}
+use Rattle.spec_duties.specs.declared.observations.Sampling.TheVariants as sampling
 pub use Rattle.spec_duties.specs.declared.observations.InboxChange.{InboxChange}
 use Rattle.spec_duties.specs.declared.observations.InboxChange.TheVariants as inbox_change
 pub use Rattle.spec_duties.specs.declared.observations.BuiltChange.{BuiltChange}
@@ -49,6 +52,7 @@ unseen = record {
   queueing = queueing.Nothing;
   dropping = None;
   discards = false;
+  sampling = sampling.Nothing;
 }
 
 abbrev pub touching : Option TouchedEndpoint → Observation
@@ -83,10 +87,11 @@ at_target host b m (AtListener l) = at_next host b (processing_of m)
 at_target host b m (AtEndpoint i e) = at_place host b (processing_of m) i
 
 -- the target of one that is dropped
-abbrev pub at_drop : Host → HostTcp → Emission → (taking : Option Rule) → Taker → Option TouchedEndpoint
-at_drop host b m taking Nobody = None
-at_drop host b m taking (AtListener l) = None
-at_drop host b m taking (AtEndpoint i e) = at_place host b (events.Drops (asks m taking e) (has_content m)) i
+abbrev pub at_drop : Version → Host → HostTcp → Emission → (taking : Option Rule) → Taker → Option TouchedEndpoint
+at_drop v host b m taking Nobody = None
+at_drop v host b m taking (AtListener l) = None
+at_drop v host b m taking (AtEndpoint i e) =
+    at_place host b (events.Drops (asks (reads_old_numbers v) m taking e) (has_content m)) i
 
 -- a segment leaves the inbox because it is processed, or because it is dropped
 abbrev pub observe_taking : Header → Host → HostTcp → (line : ℕ) → TakeChoice → Emission → Taker → Observation
@@ -95,15 +100,16 @@ observe_taking h host b line how m t =
       touched = at_target host b m t;
       inbox_change = inbox_change.Leaves line;
       discards = discards_at h.version how m t;
+      sampling = sampling_at h.version how m t;
     }
 
-abbrev pub observe_dropping : Host → HostTcp → (line : ℕ) → (taking answering : Option Rule) → Emission → Taker
-    → Observation
-observe_dropping host b line taking answering m t =
+abbrev pub observe_dropping : Version → Host → HostTcp → (line : ℕ) → (taking answering : Option Rule) → Emission
+    → Taker → Observation
+observe_dropping v host b line taking answering m t =
     record unseen {
-      touched = at_drop host b m taking t;
+      touched = at_drop v host b m taking t;
       inbox_change = inbox_change.Leaves line;
-      dropping = Some (dropping_of host taking answering (droppable_by b m t));
+      dropping = Some (dropping_of host taking answering (droppable_by v b m t) (is_old v m t));
     }
 
 -- of a step of a host; `fresh` is the number of the next segment to be built
@@ -130,7 +136,8 @@ observe_host_step h moment w fresh host s (network.Takes line how) =
     on (waiting line s.inbox) unseen (λ m. observe_taking h host s.body line how m (taker s.body m))
 observe_host_step h moment w fresh host s (network.Drops line) =
     on (waiting line s.inbox) unseen
-    (λ m. observe_dropping host s.body line (taking_breaks h moment w host line) (answering_breaks h w host line) m
+    (λ m. observe_dropping h.version host s.body line (taking_breaks h moment w host line)
+    (answering_breaks h w host line) m
     (taker s.body m))
 observe_host_step h moment w fresh host s (network.Answers line) =
     record unseen { inbox_change = inbox_change.Leaves line; built_change = built_change.Builds fresh }

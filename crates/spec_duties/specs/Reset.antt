@@ -1,5 +1,5 @@
 -- Duty reset: an aborted connection is reset (RFC 9293, 3.10.5).
-use Rattle.std.specs.Prelude.{ℕ, Bool, true, false, ◌&&◌, if◌then◌else◌, Option, None, Some}
+use Rattle.std.specs.Prelude.{ℕ, Bool, false, ◌&&◌, if◌then◌else◌, Option, None, Some}
 use Rattle.std.specs.Option.{option_or}
 use Rattle.spec_duties.specs.Views.{View}
 use Rattle.spec_duties.specs.Events.{Event, Calls, Sends}

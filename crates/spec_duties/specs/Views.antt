@@ -1,5 +1,5 @@
 -- What duties read of an endpoint.
-use Rattle.std.specs.Prelude.{ℕ, nat_le, Bool, false, ◌&&◌, Option, None, is_some}
+use Rattle.std.specs.Prelude.{nat_le, Bool, false, ◌&&◌, None, is_some}
 use Rattle.case_forms.specs.declared.calls.State.TheVariants as states
 use Rattle.streams.specs.Sent.{end_of}
 use Rattle.window_rules.specs.Control.{control_edge}
@@ -23,6 +23,7 @@ view_of e = record {
   rcv_adv = e.window.rcv_adv;
   congestion_edge = control_edge e.stream.snd_una e.control;
   timers = e.timers;
+  backoffs = e.backoffs;
 }
 
 -- before `open` or a listener creates it
@@ -41,6 +42,7 @@ unborn = record {
   rcv_adv = 0;
   congestion_edge = 0;
   timers = timers.start;
+  backoffs = 0;
 }
 
 -- the own SYN was acknowledged and the peer's SYN received

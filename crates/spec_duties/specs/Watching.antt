@@ -1,10 +1,12 @@
 -- The rules of duties at a step, and what is kept after it.
-use Rattle.std.specs.Prelude.{ℕ, ◌-◌, nat_eq, nat_le, Bool, true, false, not, ◌&&◌, ◌||◌, if◌then◌else◌, List, []}
-use Rattle.std.specs.Prelude.{◌∷◌, ◌++◌, Option, None, Some, is_some, unwrap_or}
+use Rattle.std.specs.Prelude.{ℕ, ◌-◌, nat_eq, nat_le, nat_lt, Bool, true, false, not, ◌&&◌, ◌||◌, if◌then◌else◌, List}
+use Rattle.std.specs.Prelude.{[]}
+use Rattle.std.specs.Prelude.{◌∷◌, ◌++◌, Option, None, Some, unwrap_or}
 use Rattle.std.specs.Map.{lookup}
 use Rattle.std.specs.Option.{option_map, option_map_or}
 use Rattle.indexmap.specs.IndexMap.{insert_entry}
 use Rattle.case_forms.specs.States.{is_closed}
+use Rattle.case_forms.specs.Versions.{says_sender}
 use Rattle.case_forms.specs.declared.calls.Host.{Host}
 use Rattle.case_forms.specs.declared.trace.Header.{Header}
 use Rattle.verdict.specs.declared.rule.Rule.{Rule}
@@ -16,7 +18,11 @@ use Rattle.spec_duties.specs.Events.{Event}
 use Rattle.spec_duties.specs.Deadlines.{is_late}
 use Rattle.spec_duties.specs.Resent.{is_resent, is_resent_beyond}
 use Rattle.spec_duties.specs.Excess.{one_more, is_excess, is_mere_ack}
-use Rattle.spec_duties.specs.Owed.{Owed, nothing, lates_of, late_rules, owed_after}
+use Rattle.spec_duties.specs.Acknowledge.{acknowledge_due}
+use Rattle.spec_duties.specs.Owed.{Lates, Owed, nothing, lates_of, late_rules, owed_after}
+use Rattle.spec_duties.specs.Sampling.{Sampling, is_sample_due}
+use Rattle.spec_duties.specs.Strict.{StrictOwed, Unsent, is_spared, nothing_strict, strict_after, strict_lates}
+use Rattle.spec_duties.specs.Strict.{taken_over, with_brought}
 use Rattle.spec_duties.specs.Dropped.{Droppable, Dropping}
 use Rattle.spec_duties.specs.Observations.{InboxChange, BuiltChange, Queueing, Observation, TouchedEndpoint}
 use Rattle.spec_duties.specs.declared.observations.InboxChange.TheVariants as inbox_change
@@ -27,12 +33,15 @@ pub use Rattle.spec_duties.specs.declared.tables.Listening.{Listening}
 pub use Rattle.spec_duties.specs.declared.tables.Built.{Built}
 
 -- what each endpoint owes, by its place; each listener, by its place; since when each segment in an inbox waits, by its
--- line; and the segments that were built, by their numbers. What left an inbox or was sent leaves None in its place
+-- line; and the segments that were built, by their numbers. What left an inbox or was sent leaves None in its place.
+-- For the stricter duties of version 6, the same of endpoints and of segments that were built
 pub record Duties : Type 0 where
   pub owed : Both (List (ℕ × Owed))
   pub listening : Both (List (ℕ × Listening))
   pub inbox : List (ℕ × Option ℕ)
   pub built : List (ℕ × Option Built)
+  pub strict : Both (List (ℕ × StrictOwed))
+  pub unsent : List (ℕ × Option Unsent)
 
 abbrev pub start : Duties
 start = record {
@@ -40,11 +49,17 @@ start = record {
   listening = record { zero = []; one = [] };
   inbox = [];
   built = [];
+  strict = record { zero = []; one = [] };
+  unsent = [];
 }
 
 -- what an endpoint owes
 abbrev pub owed_by : Duties → Host → (place : ℕ) → Owed
 owed_by d host place = unwrap_or (lookup (nat_eq place) (pick d.owed host)) nothing
+
+-- what it owes by the stricter duties
+abbrev pub strict_by : Duties → Host → (place : ℕ) → StrictOwed
+strict_by d host place = unwrap_or (lookup (nat_eq place) (pick d.strict host)) nothing_strict
 
 -- a listener: without children, and open, unless something else is known
 abbrev pub new_listening : Listening
@@ -62,6 +77,7 @@ abbrev pub is_droppable : Duties → Host → Droppable → Bool
 is_droppable d host droppable.No = false
 is_droppable d host droppable.Yes = true
 is_droppable d host (droppable.IfFull l backlog) = nat_le backlog (listening_at (pick d.listening host) l).children
+is_droppable d host (droppable.IfStale i behind) = nat_lt (strict_by d host i).widest behind
 
 -- a segment is dropped that has to be processed or answered (RFC 9293, 3.10.7)
 abbrev pub is_needed : Duties → Dropping → Bool
@@ -87,18 +103,33 @@ sent_late slack moment built = is_late slack moment (option_map (λ b. b.since) 
 abbrev pub counts_now : Option Built → Bool
 counts_now built = option_map_or (λ b. b.counts) built false
 
--- the limits on repetition
-abbrev pub limit_rules : Header → TouchedEndpoint → (counts : Bool) → Owed → List (Rule × Bool)
-limit_rules h t counts o =
+-- the limits on repetition, and the measurement that is due
+abbrev pub limit_rules : Header → TouchedEndpoint → (counts due : Bool) → Owed → List (Rule × Bool)
+limit_rules h t counts due o =
     (rules.Resent, is_resent h.congestion t.event t.before o.again)
     ∷ (rules.ResentBeyond, is_resent_beyond h.congestion t.event t.before)
-    ∷ (rules.AckExcess, is_excess counts o.answers) ∷ []
+    ∷ (rules.AckExcess, is_excess counts o.answers) ∷ (rules.SampleDue, due) ∷ []
+
+-- since when the acknowledgment is owed that the segment brings which is sent
+abbrev pub brought_by : Duties → BuiltChange → Option ℕ
+brought_by d (built_change.Sends number) = option_map_or (λ u. u.acknowledge) (waiting number d.unsent) None
+brought_by d it = None
+
+-- which duties of an endpoint are late: in version 6, by the stricter ones
+abbrev pub judged_lates : Header → (slack moment : ℕ) → Duties → (brought : Option ℕ) → Host → (place : ℕ) → View
+    → Lates
+judged_lates h slack moment d brought host place v =
+    if says_sender h.version
+    then with_brought (is_late slack moment (acknowledge_due brought))
+    (strict_lates h.grain slack moment v (listener_closed d host v) (owed_by d host place) (strict_by d host place))
+    else lates_of slack moment v (listener_closed d host v) (owed_by d host place)
 
 -- the rules of an endpoint that a step touches
-abbrev pub touched_rules : Header → (slack moment : ℕ) → Duties → (counts : Bool) → TouchedEndpoint → List (Rule × Bool)
-touched_rules h slack moment d counts t =
-    late_rules (lates_of slack moment t.before (listener_closed d t.host t.before) (owed_by d t.host t.place))
-    ++ limit_rules h t counts (owed_by d t.host t.place)
+abbrev pub touched_rules : Header → (slack moment : ℕ) → Duties → (counts : Bool) → (brought : Option ℕ) → Sampling
+    → TouchedEndpoint → List (Rule × Bool)
+touched_rules h slack moment d counts brought s t =
+    late_rules (judged_lates h slack moment d brought t.host t.place t.before)
+    ++ limit_rules h t counts (is_sample_due s (strict_by d t.host t.place).timed) (owed_by d t.host t.place)
 
 -- all rules of duties at a step
 abbrev pub duty_rules : Header → (slack moment : ℕ) → Duties → Observation → List (Rule × Bool)
@@ -106,7 +137,8 @@ duty_rules h slack moment d s =
     (rules.Dropped, drops_needed d s.dropping) ∷ (rules.Discarded, s.discards)
     ∷ (rules.ProcessLate, leaves_late slack moment d s.inbox_change)
     ∷ (rules.SendLate, sent_late slack moment (built_by d s.built_change))
-    ∷ on s.touched [] (touched_rules h slack moment d (counts_now (built_by d s.built_change)))
+    ∷ on s.touched []
+    (touched_rules h slack moment d (counts_now (built_by d s.built_change)) (brought_by d s.built_change) s.sampling)
 
 -- what is owed after a step at an endpoint, which is then seen like this
 abbrev pub owed_table_after : (after : View) → (moment : ℕ) → (counts : Bool) → Duties → TouchedEndpoint
@@ -175,11 +207,35 @@ built_after after moment touched (built_change.Builds number) built =
     (Some (record { since = moment; counts = option_map_or (builds_mere_ack after) touched false }))
 built_after after moment touched (built_change.Sends number) built = settled number built
 
--- what is kept after a step, if its endpoint is then seen like this
-abbrev pub duties_after : (after : View) → (moment : ℕ) → Observation → Duties → Duties
-duties_after after moment s d = record {
+-- what is owed by the stricter duties after a step at an endpoint
+abbrev pub strict_table_after : (after : View) → (moment : ℕ) → Duties → Sampling → TouchedEndpoint
+    → Both (List (ℕ × StrictOwed))
+strict_table_after after moment d s t =
+    with_host d.strict t.host
+    (insert_entry nat_eq (pick d.strict t.host) t.place
+    (strict_after s t.event t.before after moment (owed_by d t.host t.place).acknowledged (strict_by d t.host t.place)))
+
+-- a segment that is built now takes over the acknowledgment that its endpoint owes
+abbrev pub built_unsent : (moment : ℕ) → Duties → Option TouchedEndpoint → Unsent
+built_unsent moment d touched = record {
+  since = moment;
+  acknowledge = on touched None (λ t. taken_over t.event (strict_by d t.host t.place).acknowledge);
+  spared = option_map_or (λ t. is_spared t.event t.before) touched false;
+}
+
+abbrev pub unsent_after : (moment : ℕ) → Duties → Option TouchedEndpoint → BuiltChange → List (ℕ × Option Unsent)
+unsent_after moment d touched built_change.Nothing = d.unsent
+unsent_after moment d touched (built_change.Builds number) =
+    insert_entry nat_eq d.unsent number (Some (built_unsent moment d touched))
+unsent_after moment d touched (built_change.Sends number) = settled number d.unsent
+
+-- what is kept after a step, if its endpoint is then seen like this; `strict`: for the stricter duties, too
+abbrev pub duties_after : (strict : Bool) → (after : View) → (moment : ℕ) → Observation → Duties → Duties
+duties_after strict after moment s d = record {
   owed = on s.touched d.owed (owed_table_after after moment (counts_now (built_by d s.built_change)) d);
   listening = listening_after after moment s d.listening;
   inbox = inbox_after moment s.inbox_change d.inbox;
   built = built_after after moment s.touched s.built_change d.built;
+  strict = if strict then on s.touched d.strict (strict_table_after after moment d s.sampling) else d.strict;
+  unsent = if strict then unsent_after moment d s.touched s.built_change else d.unsent;
 }

@@ -41,6 +41,20 @@ pub enum Droppable {
     Yes,
     /// Only if the listener at this place has at least `backlog` children that are neither accepted nor CLOSED.
     IfFull { listener: u32, backlog: u16 },
+    /// Only if it acknowledges so many positions less than the endpoint at this place has acknowledged that they are
+    /// more than any window that the peer offered.
+    IfStale { place: u32, behind: u64 },
+}
+
+/// Whether a step at an endpoint measures a round trip.
+#[derive(Clone, Copy)]
+pub enum Sampling {
+    /// It could not, or versions 1 to 5 don't ask.
+    Nothing,
+    /// It does.
+    Measures,
+    /// It could, by the acknowledgment of this position, and doesn't.
+    Skips(u64),
 }
 
 /// A segment that is dropped.
@@ -76,4 +90,5 @@ pub struct Observation {
     pub dropping: Option<Dropping>,
     /// Whether the step discards what is next in order.
     pub discards: bool,
+    pub sampling: Sampling,
 }

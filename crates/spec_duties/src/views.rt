@@ -30,4 +30,6 @@ pub struct View {
     /// The position at which bytes end at most, by the congestion window (RFC 5681, 3.1).
     pub congestion_edge: u128,
     pub timers: Timers,
+    /// How often the timeout was doubled since the last acknowledgment of new data (RFC 6298, 5.5).
+    pub backoffs: u32,
 }

@@ -14,7 +14,7 @@ use Rattle.window_rules.specs.declared.control.Profile.TheVariants as profiles
 use Rattle.window_rules.specs.declared.growth.SlowStart.TheVariants.{Recommended, Permitted}
 use Rattle.spec_tcp.specs.Signals.{profile_of}
 use Rattle.spec_tcp.specs.Steps.{first_broken_step}
-use Rattle.spec_tcp.proofs.Telling.{header, ack, begins, consumes, effects, ends, makes, opening_lines, opening_steps, recovers, sevens, takes}
+use Rattle.spec_tcp.proofs.Telling.{header, ack, begins, consumes, effects, ends, makes, opening_lines, opening_steps, recovers, sevens, takes, undoes}
 use Rattle.spec_tcp.proofs.Limits as limits
 
 -- a header with this word, where lines have the numbers of version 1, as in the runs that are cited
@@ -83,3 +83,8 @@ not_without_recovery = refl
 
 pub again_in_recovery : first_broken_step (judging NoControl) again_lines (sent_once_steps ++ (recovers 22 Zero 4000 80 0 0 ∷ again ∷ [])) ≡ None
 again_in_recovery = refl
+
+-- a recovery is undone that was never found spurious
+pub nothing_is_undone : first_broken_step (judging NoControl) again_lines (sent_once_steps ++ (recovers 22 Zero 4000 80 0 0 ∷ undoes 22 Zero 4000 80 0 0 ∷ []))
+    ≡ Some (25, rules.Recovery)
+nothing_is_undone = refl

@@ -2,6 +2,8 @@
 use Rattle.std.proofs.Common.{ℕ, ◌*◌, ◌%◌, Bool, true, false, List, [], ◌∷◌, map, Option, None, Some}
 use Rattle.std.specs.List.{range_with_len}
 use Rattle.std.specs.Option.{option_map}
+use Rattle.case_forms.specs.declared.version.Growth.TheVariants.{OneSegment}
+use Rattle.case_forms.specs.declared.version.Sender.TheVariants.{Reno}
 use Rattle.case_forms.specs.declared.calls.Host.{Host}
 use Rattle.case_forms.specs.declared.calls.Host.TheVariants as hosts
 use Rattle.case_forms.specs.declared.calls.Call.{Call}
@@ -17,6 +19,7 @@ use Rattle.case_forms.specs.declared.trace.Event.{Event}
 use Rattle.case_forms.specs.declared.trace.Event.TheVariants as events
 use Rattle.case_forms.specs.declared.trace.Line as lines
 use Rattle.case_forms.specs.declared.trace.Span.{Span}
+use Rattle.case_forms.specs.declared.timer.RecoveryChange.TheVariants.{Begins, IsUndone}
 use Rattle.case_forms.specs.declared.timer.Timer.{Timer}
 use Rattle.case_forms.specs.declared.named_line.Extras.TheVariants as extras
 use Rattle.case_forms.specs.declared.named_line.NamedLine.{NamedLine}
@@ -30,7 +33,19 @@ use Rattle.segment.specs.Encoding.{encoding, as_written}
 -- the header, but for the maximum segment lifetime and what a listen queue may hold above its backlog
 abbrev pub header : (msl extra : ℕ) → Header
 header msl extra =
-    record { version = One; skew = 0; msl = msl; grain = 1000; minrto = 1000000; extra = extra; initial = Rfc5681; congestion = Full; slack = None }
+    record {
+      version = One;
+      skew = 0;
+      msl = msl;
+      grain = 1000;
+      minrto = 1000000;
+      extra = extra;
+      initial = Rfc5681;
+      congestion = Full;
+      slack = None;
+      sender = Reno;
+      growth = OneSegment;
+    }
 
 abbrev pub nowhere : Span
 nowhere = record { line = 0; start = 0; stop = 0 }
@@ -113,7 +128,12 @@ abbrev pub resets : ℕ → Host → ℕ → witness.Step
 resets moment host number = step moment (labels.R host number)
 
 abbrev pub recovers : ℕ → Host → (lport rport cwnd ssthresh : ℕ) → witness.Step
-recovers moment host lport rport cwnd ssthresh = step moment (labels.F host (record { lport = lport; rport = rport; cwnd = cwnd; ssthresh = ssthresh }))
+recovers moment host lport rport cwnd ssthresh =
+    step moment (labels.F host (record { change = Begins; lport = lport; rport = rport; cwnd = cwnd; ssthresh = ssthresh }))
+
+abbrev pub undoes : ℕ → Host → (lport rport cwnd ssthresh : ℕ) → witness.Step
+undoes moment host lport rport cwnd ssthresh =
+    step moment (labels.F host (record { change = IsUndone; lport = lport; rport = rport; cwnd = cwnd; ssthresh = ssthresh }))
 
 -- the flags of made segments
 abbrev pub flags : Bool → Bool → Bool → Bool → Flags

@@ -3,7 +3,7 @@ use Rattle.std.proofs.Common.{◌≡◌, refl, true, false, List, [], ◌∷◌,
 use Rattle.case_forms.specs.declared.calls.Host.TheVariants.{Zero, One}
 use Rattle.case_forms.specs.declared.calls.Call.TheVariants as calls
 use Rattle.case_forms.specs.declared.calls.Answer.TheVariants as answers
-use Rattle.case_forms.specs.declared.timer.Timer.TheVariants.{Rto, Persist, Msl2}
+use Rattle.case_forms.specs.declared.timer.Timer.TheVariants.{Rto, Persist, Msl2, Pto}
 use Rattle.case_forms.specs.declared.trace.Line as lines
 use Rattle.case_forms.specs.declared.steps.Step as witness
 use Rattle.verdict.specs.declared.rule.Rule.TheVariants as rules
@@ -153,6 +153,19 @@ nothing_times_out_steps =
 
 pub nothing_times_out : first_broken_step (header 120000000 0) nothing_times_out_lines nothing_times_out_steps ≡ Some (5, rules.TimerOff)
 nothing_times_out = refl
+
+-- a probe for a loss, while a SYN is outstanding
+abbrev pub nothing_is_probed_lines : List lines.Line
+nothing_is_probed_lines =
+    begins 7 20 2 (calls.Connect Zero 4000 80)
+    ∷ ends 8 21 2 (answers.Given 6)
+    ∷ expires 9 999030 9 Zero 4000 80 Pto
+    ∷ []
+
+pub nothing_is_probed : first_broken_step (header 120000000 0) nothing_is_probed_lines
+    (takes 20 7 ∷ effects 20 2 (answers.Given 6) ∷ takes 21 8 ∷ makes 30 Zero 4000 80 0 0 syn 65535 (Some 100) ∷ takes 999030 9 ∷ [])
+    ≡ Some (6, rules.TimerOff)
+nothing_is_probed = refl
 
 -- what was made twice is not measured
 abbrev pub no_sample_of_what_was_made_twice_lines : List lines.Line

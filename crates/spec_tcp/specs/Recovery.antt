@@ -1,6 +1,8 @@
--- Fast recovery begins (RFC 5681, 3.2).
-use Rattle.std.specs.Prelude.{ℕ, ◌==◌, nat_lt, Bool, not, ◌||◌, min, List, [], ◌∷◌}
+-- Fast recovery begins (RFC 5681, 3.2), or is undone (RFC 4015, 3.2).
+use Rattle.std.specs.Prelude.{ℕ, ◌==◌, nat_lt, Bool, true, false, not, ◌||◌, min, List, [], ◌∷◌}
 use Rattle.case_forms.specs.States.{is_closed}
+use Rattle.case_forms.specs.declared.timer.RecoveryChange.{RecoveryChange}
+use Rattle.case_forms.specs.declared.timer.RecoveryChange.TheVariants.{Begins, IsUndone}
 use Rattle.verdict.specs.declared.rule.Rule.{Rule}
 use Rattle.verdict.specs.declared.rule.Rule.TheVariants as rules
 use Rattle.window_rules.specs.Control.{greatest, after, may_recover}
@@ -22,10 +24,15 @@ is_bad_recovery e cwnd ssthresh moment =
     || nat_lt ((greatest e.control (recovery_signal e ssthresh) (at_moment e moment)).1) ssthresh
     || nat_lt ((greatest e.control (recovery_signal e ssthresh) (at_moment e moment)).0) cwnd
 
-abbrev pub recovery_rules : Endpoint → (cwnd ssthresh moment : ℕ) → List (Rule × Bool)
-recovery_rules e cwnd ssthresh moment =
+-- no endpoint detects that a recovery was spurious
+abbrev pub is_undone : RecoveryChange → Bool
+is_undone Begins = false
+is_undone IsUndone = true
+
+abbrev pub recovery_rules : Endpoint → RecoveryChange → (cwnd ssthresh moment : ℕ) → List (Rule × Bool)
+recovery_rules e change cwnd ssthresh moment =
     (rules.NoEndpoint, is_closed e.state) ∷ (rules.State, not (is_up e))
-    ∷ (rules.Recovery, is_bad_recovery e cwnd ssthresh moment) ∷ []
+    ∷ (rules.Recovery, is_undone change || is_bad_recovery e cwnd ssthresh moment) ∷ []
 
 abbrev pub after_recovery : Endpoint → (cwnd ssthresh moment : ℕ) → Endpoint
 after_recovery e cwnd ssthresh moment = record e {

@@ -7,7 +7,7 @@ use Rattle.case_forms.specs.declared.taken_line.Expired.{Expired}
 use Rattle.case_forms.specs.declared.taken_line.Expired.TheVariants as expireds
 use Rattle.case_forms.specs.declared.timer.RtoChoice.{RtoChoice}
 use Rattle.case_forms.specs.declared.timer.Timer.{Timer}
-use Rattle.case_forms.specs.declared.timer.Timer.TheVariants.{Giveup, Msl2, Persist, Rto}
+use Rattle.case_forms.specs.declared.timer.Timer.TheVariants.{Giveup, Msl2, Persist, Pto, Rto}
 use Rattle.case_forms.specs.declared.trace.Header.{Header}
 use Rattle.verdict.specs.declared.rule.Rule.{Rule}
 use Rattle.verdict.specs.declared.rule.Rule.TheVariants as rules
@@ -43,12 +43,13 @@ may_give_up e =
     (nat_lt e.stream.snd_una (snd_max e) || is_some e.timers.persist_armed) && nat_le 3 e.unanswered_expiries
     || e.closed && is_fin_wait_2 e.state
 
--- the timer is off, or its conditions are not met
+-- the timer is off, or its conditions are not met; no endpoint probes for a loss (RFC 8985, 7)
 abbrev pub is_off : Endpoint → Timer → Bool
 is_off e Rto = not (is_armed e.timers Rto)
 is_off e Persist = not (is_armed e.timers Persist && is_up e && has_more e)
 is_off e Msl2 = not (is_armed e.timers Msl2)
 is_off e Giveup = not (may_give_up e)
+is_off e Pto = true
 
 abbrev pub expiry_rules : Header → ℕ → Endpoint → Expired → List (Rule × Bool)
 expiry_rules h moment e x =
@@ -82,3 +83,4 @@ after_expiry e (expireds.Rto growth) moment = after_rto e growth moment
 after_expiry e expireds.Persist moment = after_persist e moment
 after_expiry e expireds.Msl2 moment = shut_down e
 after_expiry e expireds.Giveup moment = record (shut_down e) { fault = Some Timeout; reset_due = true }
+after_expiry e expireds.Pto moment = e

@@ -14,7 +14,7 @@ use Rattle.case_forms.specs.declared.steps.SegmentPlan.{SegmentPlan}
 use Rattle.spec_tcp.specs.Makes.Payload.{making_length}
 use Rattle.spec_tcp.specs.Makes.{endpoint_made, after_making}
 use Rattle.case_forms.specs.declared.taken_line.Expired.{Expired}
-use Rattle.case_forms.specs.declared.taken_line.Expired.TheVariants.{Giveup, Msl2, Persist, Rto}
+use Rattle.case_forms.specs.declared.taken_line.Expired.TheVariants.{Giveup, Msl2, Persist, Pto, Rto}
 use Rattle.spec_tcp.specs.Timeouts.{after_expiry}
 use Rattle.spec_tcp.specs.Recovery.{after_recovery}
 use Rattle.spec_tcp.specs.Forgetting.{forget_endpoint}
@@ -114,6 +114,7 @@ expiry_same (Rto growth) moment e = rw (snd_max-forget e) refl
 expiry_same Persist moment e = rw (snd_max-forget e) refl
 expiry_same Msl2 moment e = refl
 expiry_same Giveup moment e = refl
+expiry_same Pto moment e = refl
 
 pub expiry-forgets : (x : Expired) (moment : ℕ) → Forgets (λ e. after_expiry e x moment)
 expiry-forgets x moment = forgets (λ e. after_expiry e x moment) (expiry_same x moment)

@@ -7,9 +7,10 @@ use Rattle.case_forms.specs.declared.version.Version.{Version}
 use Rattle.streams.specs.Transmissions.{retransmitted}
 use Rattle.case_forms.specs.declared.trace.Header.{Header}
 use Rattle.case_forms.specs.declared.taken_line.Expired.{Expired}
-use Rattle.case_forms.specs.declared.taken_line.Expired.TheVariants.{Giveup, Msl2, Persist, Rto}
+use Rattle.case_forms.specs.declared.taken_line.Expired.TheVariants.{Giveup, Msl2, Persist, Pto, Rto}
 use Rattle.case_forms.specs.declared.calls.Answer.{Answer}
 use Rattle.case_forms.specs.declared.calls.Answer.TheVariants as answers
+use Rattle.case_forms.specs.declared.timer.RecoveryChange.{RecoveryChange}
 use Rattle.spec_tcp.specs.declared.endpoint.Endpoint.{Endpoint}
 use Rattle.spec_tcp.specs.declared.endpoint.Emission.{Emission}
 use Rattle.spec_tcp.specs.declared.endpoint.EndpointId.{EndpointId}
@@ -60,7 +61,7 @@ acceptable-forget e m = rw (read_position-forget e m) (by (read_position e m))
     by (Some pos) = rw (rcv_nxt-forget e) refl
 
 -- a sample reads what isn't acknowledged
-sample-forget : (v : Version) (e : Endpoint) (m : Emission) → may_sample v (forget_endpoint e) m ≡ may_sample v e m
+pub sample-forget : (v : Version) (e : Endpoint) (m : Emission) → may_sample v (forget_endpoint e) m ≡ may_sample v e m
 sample-forget v e m = by (is_new_ack e m) (says_slack v) refl
   where
     by : (new later : Bool) → is_new_ack e m ≡ new
@@ -79,7 +80,8 @@ expiry_rules-forget h moment e (Rto growth) = rw (snd_max-forget e) refl
 expiry_rules-forget h moment e Persist = rw (rcv_nxt-forget e, end_of-forget e) refl
 expiry_rules-forget h moment e Msl2 = refl
 expiry_rules-forget h moment e Giveup = rw (snd_max-forget e) refl
+expiry_rules-forget h moment e Pto = refl
 
-pub recovery_rules-forget : (e : Endpoint) (cwnd ssthresh moment : ℕ)
-    → recovery_rules (forget_endpoint e) cwnd ssthresh moment ≡ recovery_rules e cwnd ssthresh moment
-recovery_rules-forget e cwnd ssthresh moment = rw (rcv_nxt-forget e, snd_max-forget e) refl
+pub recovery_rules-forget : (e : Endpoint) (change : RecoveryChange) (cwnd ssthresh moment : ℕ)
+    → recovery_rules (forget_endpoint e) change cwnd ssthresh moment ≡ recovery_rules e change cwnd ssthresh moment
+recovery_rules-forget e change cwnd ssthresh moment = rw (rcv_nxt-forget e, snd_max-forget e) refl

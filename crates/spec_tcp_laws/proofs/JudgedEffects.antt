@@ -8,7 +8,7 @@ use Rattle.case_forms.specs.declared.calls.State.TheVariants as states
 use Rattle.case_forms.specs.declared.steps.SegmentPlan.{SegmentPlan}
 use Rattle.case_forms.specs.declared.steps.TakeChoice.{TakeChoice}
 use Rattle.case_forms.specs.declared.taken_line.Expired.{Expired}
-use Rattle.case_forms.specs.declared.taken_line.Expired.TheVariants.{Giveup, Msl2, Persist, Rto}
+use Rattle.case_forms.specs.declared.taken_line.Expired.TheVariants.{Giveup, Msl2, Persist, Pto, Rto}
 use Rattle.case_forms.specs.declared.trace.Header.{Header}
 use Rattle.case_forms.specs.declared.version.Judged.{Judged}
 use Rattle.window_rules.specs.declared.control.Control.{Control}
@@ -88,6 +88,7 @@ expiry_kept p (Rto growth) moment e =
 expiry_kept p Persist moment e = refl
 expiry_kept p Msl2 moment e = refl
 expiry_kept p Giveup moment e = refl
+expiry_kept p Pto moment e = refl
 
 pub recovery_kept : (p : Profile) (cwnd ssthresh moment : ℕ) → Keeps p (λ e. after_recovery e cwnd ssthresh moment) (λ e. after_recovery e cwnd ssthresh moment)
 recovery_kept p cwnd ssthresh moment e =

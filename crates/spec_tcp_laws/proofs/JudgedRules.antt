@@ -6,7 +6,7 @@ use Rattle.std.proofs.lemmas.Bool.Decides.{nat_tests}
 use Rattle.case_forms.specs.declared.steps.SegmentPlan.{SegmentPlan}
 use Rattle.case_forms.specs.declared.steps.TakeChoice.{TakeChoice}
 use Rattle.case_forms.specs.declared.taken_line.Expired.{Expired}
-use Rattle.case_forms.specs.declared.taken_line.Expired.TheVariants.{Giveup, Msl2, Persist, Rto}
+use Rattle.case_forms.specs.declared.taken_line.Expired.TheVariants.{Giveup, Msl2, Persist, Pto, Rto}
 use Rattle.case_forms.specs.declared.timer.RtoChoice.{RtoChoice}
 use Rattle.case_forms.specs.declared.trace.Header.{Header}
 use Rattle.case_forms.specs.declared.version.Initial.{Initial}
@@ -14,6 +14,7 @@ use Rattle.case_forms.specs.declared.version.Initial.TheVariants as initials
 use Rattle.case_forms.specs.declared.version.Judged.{Judged}
 use Rattle.case_forms.specs.declared.version.Judged.TheVariants as judged
 use Rattle.case_forms.specs.declared.version.Version.{Version}
+use Rattle.case_forms.specs.declared.timer.RecoveryChange.{RecoveryChange}
 use Rattle.verdict.specs.Rules.{first_broken}
 use Rattle.verdict.proofs.RuleLemmas.{all_none, none_all}
 use Rattle.window_rules.specs.Control.{control_edge, greatest, may_recover}
@@ -33,7 +34,7 @@ use Rattle.spec_tcp.specs.Endpoints.{snd_max}
 use Rattle.spec_tcp.specs.HostTcp.{HostTcp}
 use Rattle.spec_tcp.specs.Makes.{making_rules}
 use Rattle.spec_tcp.specs.Makes.Payload.{has_new_bytes}
-use Rattle.spec_tcp.specs.Recovery.{is_bad_recovery, recovery_rules}
+use Rattle.spec_tcp.specs.Recovery.{is_bad_recovery, is_undone, recovery_rules}
 use Rattle.spec_tcp.specs.Signals.{at_moment, profile_named, recovery_signal, signal_of, timeout_signal}
 use Rattle.spec_tcp.specs.Timeouts.{expiry_rules, greatest_values, grows_above, is_above}
 use Rattle.spec_tcp_laws.specs.Judging.{body_by, endpoint_by, extent, header_by}
@@ -123,6 +124,7 @@ grows_passes p e (Rto growth) moment may below = above_passes p e growth moment 
 grows_passes p e Persist moment may below = refl
 grows_passes p e Msl2 moment may below = refl
 grows_passes p e Giveup moment may below = refl
+grows_passes p e Pto moment may below = refl
 
 pub expiry_passes : (p : Profile) (j : Judged) (h : Header) (moment : ℕ) (e : Endpoint) (x : Expired) → MayJudge p e
     → first_broken (expiry_rules h moment e x) ≡ None
@@ -136,6 +138,7 @@ expiry_passes p j h moment e x may passed = by x (none_all (expiry_rules h momen
     by Persist t = all_none (expiry_rules (header_by j h) moment (endpoint_by p e) Persist) t
     by Msl2 t = all_none (expiry_rules (header_by j h) moment (endpoint_by p e) Msl2) t
     by Giveup t = all_none (expiry_rules (header_by j h) moment (endpoint_by p e) Giveup) t
+    by Pto t = all_none (expiry_rules (header_by j h) moment (endpoint_by p e) Pto) t
 
 not_true_false : (b : Bool) → b ≡ true → not b ≡ false
 not_true_false true is = refl
@@ -159,8 +162,11 @@ bad_passes p e cwnd ssthresh moment may fine =
     now : Signal
     now = recovery_signal e ssthresh
 
-pub recovery_passes : (p : Profile) (e : Endpoint) (cwnd ssthresh moment : ℕ) → MayJudge p e → first_broken (recovery_rules e cwnd ssthresh moment) ≡ None
-    → first_broken (recovery_rules (endpoint_by p e) cwnd ssthresh moment) ≡ None
-recovery_passes p e cwnd ssthresh moment may passed =
-    let t = none_all (recovery_rules e cwnd ssthresh moment) passed in
-    all_none (recovery_rules (endpoint_by p e) cwnd ssthresh moment) (t.0, (t.1.0, (bad_passes p e cwnd ssthresh moment may t.1.1.0, t.1.1.1)))
+pub recovery_passes : (p : Profile) (e : Endpoint) (change : RecoveryChange) (cwnd ssthresh moment : ℕ) → MayJudge p e
+    → first_broken (recovery_rules e change cwnd ssthresh moment) ≡ None
+    → first_broken (recovery_rules (endpoint_by p e) change cwnd ssthresh moment) ≡ None
+recovery_passes p e change cwnd ssthresh moment may passed =
+    let t = none_all (recovery_rules e change cwnd ssthresh moment) passed in
+    let fine = neither (is_undone change) (is_bad_recovery e cwnd ssthresh moment) t.1.1.0 in
+    all_none (recovery_rules (endpoint_by p e) change cwnd ssthresh moment)
+    (t.0, (t.1.0, (both_false _ _ fine.0 (bad_passes p e cwnd ssthresh moment may fine.1), t.1.1.1)))

@@ -12,9 +12,10 @@ use Rattle.case_forms.specs.declared.calls.Host.TheVariants.{One, Zero}
 use Rattle.case_forms.specs.declared.steps.SegmentPlan.{SegmentPlan}
 use Rattle.case_forms.specs.declared.steps.TakeChoice.{TakeChoice}
 use Rattle.case_forms.specs.declared.taken_line.Expired.{Expired}
-use Rattle.case_forms.specs.declared.taken_line.Expired.TheVariants.{Giveup, Msl2, Persist, Rto}
+use Rattle.case_forms.specs.declared.taken_line.Expired.TheVariants.{Giveup, Msl2, Persist, Pto, Rto}
 use Rattle.case_forms.specs.declared.trace.Header.{Header}
 use Rattle.case_forms.specs.declared.version.Judged.{Judged}
+use Rattle.case_forms.specs.declared.timer.RecoveryChange.{RecoveryChange}
 use Rattle.verdict.specs.Rules.{first_broken}
 use Rattle.verdict.specs.declared.rule.Rule.{Rule}
 use Rattle.verdict.specs.declared.rule.Rule.TheVariants as rules
@@ -35,7 +36,7 @@ use Rattle.spec_tcp.specs.HostTcp.{HostTcp, endpoint_of}
 use Rattle.spec_tcp.specs.Machine.{Act, aim, act_rules, gives, rules_at, tcp, tcp_shape}
 use Rattle.spec_tcp.specs.Machine as acts
 use Rattle.spec_tcp.specs.Makes.{making_rules}
-use Rattle.spec_tcp.specs.Recovery.{recovery_rules}
+use Rattle.spec_tcp.specs.Recovery.{is_bad_recovery, is_undone, recovery_rules}
 use Rattle.spec_tcp.specs.Signals.{at_moment, profile_of, recovery_signal}
 use Rattle.spec_tcp.specs.Timeouts.{expiry_rules}
 use Rattle.spec_tcp.specs.declared.endpoint.Emission.{Emission}
@@ -65,10 +66,11 @@ expiry_alike p j h moment e (Rto growth) = refl
 expiry_alike p j h moment e Persist = refl
 expiry_alike p j h moment e Msl2 = refl
 expiry_alike p j h moment e Giveup = refl
+expiry_alike p j h moment e Pto = refl
 
-recovery_alike : (p : Profile) (e : Endpoint) (cwnd ssthresh moment : ℕ)
-    → Alike (recovery_rules (endpoint_by p e) cwnd ssthresh moment) (recovery_rules e cwnd ssthresh moment)
-recovery_alike p e cwnd ssthresh moment = refl
+recovery_alike : (p : Profile) (e : Endpoint) (change : RecoveryChange) (cwnd ssthresh moment : ℕ)
+    → Alike (recovery_rules (endpoint_by p e) change cwnd ssthresh moment) (recovery_rules e change cwnd ssthresh moment)
+recovery_alike p e change cwnd ssthresh moment = refl
 
 taker_alike : (p : Profile) (j : Judged) (h : Header) (me : Host) (b : HostTcp) (how : TakeChoice) (m : Emission) (moment : ℕ) (t : Taker)
     → Alike (taker_rules (header_by j h) me (body_by p b) how m moment (taker_by p t)) (taker_rules h me b how m moment t)
@@ -106,8 +108,8 @@ act_alike p j h me moment b (acts.Expires x) =
     rules_alike p b x.lport x.rport (λ e. expiry_rules h moment e x.expired) (λ e. expiry_rules (header_by j h) moment e x.expired)
     (λ e. expiry_alike p j h moment e x.expired)
 act_alike p j h me moment b (acts.Recovers x) =
-    rules_alike p b x.lport x.rport (λ e. recovery_rules e x.cwnd x.ssthresh moment) (λ e. recovery_rules e x.cwnd x.ssthresh moment)
-    (λ e. recovery_alike p e x.cwnd x.ssthresh moment)
+    rules_alike p b x.lport x.rport (λ e. recovery_rules e x.change x.cwnd x.ssthresh moment) (λ e. recovery_rules e x.change x.cwnd x.ssthresh moment)
+    (λ e. recovery_alike p e x.change x.cwnd x.ssthresh moment)
 
 -- of a thing that is looked up
 on_alike : {A : Type 0} (o : Option A) (none : List (Rule × Bool)) (f g : A → List (Rule × Bool)) → ((x : A) → Alike (g x) (f x))
@@ -234,11 +236,12 @@ duplicate true dup false is may = (grind (arith, nat_tests), refl)
 duplicate false dup fast is may = absurd cc
 
 pub recovery_is_due : RecoveryIsDue
-recovery_is_due e cwnd ssthresh moment passed =
-    let t = none_all (recovery_rules e cwnd ssthresh moment) passed in
+recovery_is_due e change cwnd ssthresh moment passed =
+    let t = none_all (recovery_rules e change cwnd ssthresh moment) passed in
+    let fine = neither (is_undone change) (is_bad_recovery e cwnd ssthresh moment) t.1.1.0 in
     let window =
     neither (not (may_recover e.control) || e.stream.snd_una == snd_max e || nat_lt ((greatest e.control now (at_moment e moment)).1) ssthresh)
-    (nat_lt ((greatest e.control now (at_moment e moment)).0) cwnd) t.1.1.0 in
+    (nat_lt ((greatest e.control now (at_moment e moment)).0) cwnd) fine.1 in
     let threshold =
     neither (not (may_recover e.control) || e.stream.snd_una == snd_max e) (nat_lt ((greatest e.control now (at_moment e moment)).1) ssthresh) window.0 in
     let begins = neither (not (may_recover e.control)) (e.stream.snd_una == snd_max e) threshold.0 in

@@ -25,7 +25,7 @@ use Rattle.spec_tcp.specs.Makes.Payload.{is_bad_payload}
 use Rattle.spec_tcp.specs.Makes.Edges.{is_bad_ack, is_beyond_offer, is_congesting}
 use Rattle.spec_tcp.specs.Makes.{making_rules, emission_of, after_making, endpoint_made}
 use Rattle.case_forms.specs.declared.taken_line.Expired.{Expired}
-use Rattle.case_forms.specs.declared.taken_line.Expired.TheVariants.{Giveup, Msl2, Persist, Rto}
+use Rattle.case_forms.specs.declared.taken_line.Expired.TheVariants.{Giveup, Msl2, Persist, Pto, Rto}
 use Rattle.spec_tcp.specs.Timeouts.{after_expiry}
 use Rattle.spec_tcp.specs.Recovery.{after_recovery}
 use Rattle.spec_tcp.specs.Machine.{made_at, rules_at}
@@ -181,6 +181,7 @@ plain_expiry (Rto growth) moment e = record { stream = refl; irs = refl; waits =
 plain_expiry Persist moment e = record { stream = refl; irs = refl; waits = λ x. x }
 plain_expiry Msl2 moment e = record { stream = refl; irs = refl; waits = λ x. absurd cc }
 plain_expiry Giveup moment e = record { stream = refl; irs = refl; waits = λ x. absurd cc }
+plain_expiry Pto moment e = record { stream = refl; irs = refl; waits = λ x. x }
 
 pub plain_recovery : (cwnd ssthresh moment : ℕ) (e : Endpoint) → Plain e (after_recovery e cwnd ssthresh moment)
 plain_recovery cwnd ssthresh moment e = record { stream = refl; irs = refl; waits = λ x. x }

@@ -48,7 +48,7 @@ use Rattle.spec_tcp.specs.Arrives.Listen.{child}
 use Rattle.spec_tcp.specs.Heard.{as_read}
 use Rattle.spec_tcp.specs.Arrives.{Taker, Nobody, AtListener, AtEndpoint, taker, endpoint_taken, after_taking}
 use Rattle.case_forms.specs.declared.taken_line.Expired.{Expired}
-use Rattle.case_forms.specs.declared.taken_line.Expired.TheVariants.{Giveup, Msl2, Persist, Rto}
+use Rattle.case_forms.specs.declared.taken_line.Expired.TheVariants.{Giveup, Msl2, Persist, Pto, Rto}
 use Rattle.spec_tcp.specs.Timeouts.{after_expiry}
 use Rattle.spec_tcp.specs.Recovery.{after_recovery}
 use Rattle.spec_tcp.specs.Machine.{Calls, tcp, tcp_shape, aim, gives}
@@ -77,6 +77,7 @@ stays_expiry e (Rto growth) moment = record { listener = refl; late = λ h. h }
 stays_expiry e Persist moment = record { listener = refl; late = λ h. h }
 stays_expiry e Msl2 moment = record { listener = refl; late = λ h. refl }
 stays_expiry e Giveup moment = record { listener = refl; late = λ h. refl }
+stays_expiry e Pto moment = record { listener = refl; late = λ h. h }
 
 early_either : (b : Bool) (x y : State) → is_early x ≡ false → is_early y ≡ false → is_early (if b then x else y) ≡ false
 early_either true x y p q = p

@@ -220,6 +220,7 @@ expiry_goes w s host line x i e at = go x.expired (λ closing. (line, x, refl, c
     go expireds.Giveup closing =
         closed w (At host (Expires line x)) (name host i) e (after_expiry e expireds.Giveup s) refl (level e)
         (ByTimer (closing refl) refl)
+    go expireds.Pto closing = stays w (At host (Expires line x)) (name host i) e (after_expiry e expireds.Pto s) refl (level e) refl
 
 -- the arrows of an acknowledgment, and behind it those of a FIN
 acknowledged_leads : (s : State) (e : Endpoint) (m : Emission) → StaysOr segment_leads s (acknowledged s e m)

@@ -51,12 +51,12 @@ use Rattle.spec_tcp.specs.Arrives.Listen.{listener_rules, child}
 use Rattle.spec_tcp.specs.Arrives.OtherStates.Reset.{was_reset}
 use Rattle.spec_tcp.specs.Arrives.{Taker, Nobody, AtListener, AtEndpoint, taker, taker_rules, endpoint_taken, after_taking}
 use Rattle.case_forms.specs.declared.taken_line.Expired.{Expired}
-use Rattle.case_forms.specs.declared.taken_line.Expired.TheVariants.{Giveup, Msl2, Persist, Rto}
+use Rattle.case_forms.specs.declared.taken_line.Expired.TheVariants.{Giveup, Msl2, Persist, Pto, Rto}
 use Rattle.case_forms.specs.declared.timer.RtoChoice.{RtoChoice}
 use Rattle.case_forms.specs.declared.timer.Recovery.{Recovery}
 use Rattle.spec_tcp.specs.Heard.{as_read}
 use Rattle.spec_tcp.specs.Timeouts.{greatest_values, expiry_rules, after_expiry}
-use Rattle.spec_tcp.specs.Recovery.{recovery_rules, after_recovery}
+use Rattle.spec_tcp.specs.Recovery.{is_bad_recovery, is_undone, recovery_rules, after_recovery}
 use Rattle.spec_tcp.specs.Machine.{Calls, Expiring, rules_at, tcp, tcp_shape, aim}
 use Rattle.spec_tcp_laws.specs.Consequences.{find}
 use Rattle.spec_tcp_laws.specs.Bounds.{greatest_taking, TakesThere, TimesOut, Recovers, Leaves, WindowsFollow}
@@ -142,6 +142,7 @@ expiry_moves w s host line x i e at = go x.expired refl
     go Persist is = stayed refl
     go Msl2 is = stayed refl
     go Giveup is = stayed refl
+    go Pto is = stayed refl
 
 -- the windows of who took a segment are those chosen
 chosen : (h : Header) (e : Endpoint) (how : TakeChoice) (m : Emission) (moment : ℕ) → ((endpoint_taken h e how m moment).control.values.cwnd ≡ how.cwnd)
@@ -428,12 +429,13 @@ recovery_leaves h s w host x i e may at there =
 
     bound : (x.ssthresh ≤ (greatest e.control now (at_moment e s)).1) × (x.cwnd ≤ (greatest e.control now (at_moment e s)).0)
     bound =
-        let mine = rules_there (pick w.hosts host).body x.lport x.rport i e (λ e. recovery_rules e x.cwnd x.ssthresh s) at there may in
-        let t = none_all (recovery_rules e x.cwnd x.ssthresh s) mine in
+        let mine = rules_there (pick w.hosts host).body x.lport x.rport i e (λ e. recovery_rules e x.change x.cwnd x.ssthresh s) at there may in
+        let t = none_all (recovery_rules e x.change x.cwnd x.ssthresh s) mine in
+        let fine = neither (is_undone x.change) (is_bad_recovery e x.cwnd x.ssthresh s) t.1.1.0 in
         let last =
         neither (not (may_recover e.control) || e.stream.snd_una == snd_max e
         || nat_lt ((greatest e.control now (at_moment e s)).1) x.ssthresh)
-        (nat_lt ((greatest e.control now (at_moment e s)).0) x.cwnd) t.1.1.0 in
+        (nat_lt ((greatest e.control now (at_moment e s)).0) x.cwnd) fine.1 in
         let threshold =
         neither (not (may_recover e.control) || e.stream.snd_una == snd_max e)
         (nat_lt ((greatest e.control now (at_moment e s)).1) x.ssthresh) last.0 in (

@@ -61,6 +61,7 @@ rule_number rules.ResetLate = 49
 rule_number rules.Resent = 50
 rule_number rules.ResentBeyond = 51
 rule_number rules.AckExcess = 52
+rule_number rules.SampleDue = 56
 
 -- the numbers of these rules don't fall, and none is below that one
 abbrev pub ascend : ℕ → List (Rule × Bool) → Bool

@@ -5,6 +5,7 @@ use Rattle.case_forms.specs.declared.calls.Host.{Host}
 use Rattle.case_forms.specs.declared.steps.TakeChoice.{TakeChoice}
 use Rattle.case_forms.specs.declared.trace.Header.{Header}
 use Rattle.case_forms.specs.declared.version.Judged.{Judged}
+use Rattle.case_forms.specs.declared.timer.RecoveryChange.{RecoveryChange}
 use Rattle.verdict.specs.declared.rule.Rule.{Rule}
 use Rattle.verdict.specs.declared.rule.Rule.TheVariants as rules
 use Rattle.verdict.specs.Rules.{first_broken}
@@ -64,5 +65,5 @@ pub record BeginsRecovery (e : Endpoint) : Type 0 where
       → (3 ≤ e.control.values.dup) × (e.control.values.fast ≡ false)
 
 abbrev pub RecoveryIsDue : Type 0
-RecoveryIsDue = (e : Endpoint) (cwnd ssthresh moment : ℕ)
-    → first_broken (recovery_rules e cwnd ssthresh moment) ≡ None → BeginsRecovery e
+RecoveryIsDue = (e : Endpoint) (change : RecoveryChange) (cwnd ssthresh moment : ℕ)
+    → first_broken (recovery_rules e change cwnd ssthresh moment) ≡ None → BeginsRecovery e

@@ -11,6 +11,8 @@ use Rattle.case_forms.specs.declared.calls.Host.TheVariants.{Zero, One}
 use Rattle.case_forms.specs.declared.calls.Ports.{Ports}
 use Rattle.case_forms.specs.declared.steps.TakeChoice.{TakeChoice}
 use Rattle.case_forms.specs.declared.timer.Recovery.{Recovery}
+use Rattle.case_forms.specs.declared.timer.RecoveryChange.{RecoveryChange}
+use Rattle.case_forms.specs.declared.timer.RecoveryChange.TheVariants.{Begins}
 use Rattle.case_forms.specs.declared.trace.Header.{Header}
 use Rattle.case_forms.specs.declared.trace.Wire.{Wire}
 use Rattle.verdict.specs.Rules.{first_broken}
@@ -209,11 +211,12 @@ settled_dropped c d n ports me is not_taken no_reset row =
 
 -- how fast recovery may begin shows that it may
 pub may_recover : (c : Core) (ports : Ports) (x : Recovery) → IsRecoveryAt c ports x → MayRecover c ports
-may_recover c ports x (left, right, may) = (
+may_recover c ports x (left, right, begins, may) = (
   x.cwnd,
   x.ssthresh,
-  subst (λ (n : ℕ). MayDo c (At c.recorded.me (Does (record { lport = n; rport = ports.rport; cwnd = x.cwnd; ssthresh = x.ssthresh })))) left
-      (subst (λ (n : ℕ). MayDo c (At c.recorded.me (Does (record { lport = x.lport; rport = n; cwnd = x.cwnd; ssthresh = x.ssthresh })))) right may),
+  subst (λ (y : Recovery). MayDo c (At c.recorded.me (Does y))) (ap (λ (n : ℕ). record x { lport = n; rport = ports.rport; change = Begins }) left)
+      (subst (λ (y : Recovery). MayDo c (At c.recorded.me (Does y))) (ap (λ (n : ℕ). record x { rport = n; change = Begins }) right)
+      (subst (λ (y : Recovery). MayDo c (At c.recorded.me (Does y))) (ap (λ (k : RecoveryChange). record x { change = k }) begins) may)),
 )
 
 -- what was taken stands, where memory ran out at the recovery that was to begin behind

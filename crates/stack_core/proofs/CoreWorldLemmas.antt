@@ -76,7 +76,7 @@ module _ (h : Header) (theirs : Recorded) (c : Core) where
   grew_to d e is g = subst (λ (x : Core). Grew h theirs c x) (sym is) g
 
   grew_recovered : (d e : Core) (ports : _) → IsRecovered d ports e → Grew h theirs c d → Grew h theirs c e
-  grew_recovered d e ports (inl r) g = grew_to (with_step d (At d.recorded.me (Does r.0))) e r.3 (grew_step d (At d.recorded.me (Does r.0)) g)
+  grew_recovered d e ports (inl r) g = grew_to (with_step d (At d.recorded.me (Does r.0))) e r.4 (grew_step d (At d.recorded.me (Does r.0)) g)
   grew_recovered d e ports (inr r) g = grew_to d e r.0 g
 
   grew_settled : (d e : Core) (n : ℕ) (ports : _) → IsSettled d n ports e → Grew h theirs c d → Grew h theirs c e

@@ -131,6 +131,8 @@ few_first versions.Four = omega arith
 few_first versions.FourHalf = omega arith
 few_first versions.Five = omega arith
 few_first versions.FiveHalf = omega arith
+few_first versions.Six = omega arith
+few_first versions.SixHalf = omega arith
 
 few_none : (h : Header) (me : Host) → length (pick (start (tcp h)).hosts me).body.sockets ≤ 0
 few_none h Zero = omega arith

@@ -14,7 +14,7 @@ use Rattle.case_forms.specs.TakenLines.{timer_of}
 use Rattle.case_forms.specs.declared.taken_line.Expired.{Expired}
 use Rattle.case_forms.specs.declared.taken_line.Expired.TheVariants as expireds
 use Rattle.case_forms.specs.declared.timer.Timer.{Timer}
-use Rattle.case_forms.specs.declared.timer.Timer.TheVariants.{Giveup, Msl2, Persist, Rto}
+use Rattle.case_forms.specs.declared.timer.Timer.TheVariants.{Giveup, Msl2, Persist, Pto, Rto}
 use Rattle.case_forms.specs.declared.trace.Header.{Header}
 use Rattle.verdict.specs.Rules.{first_broken}
 use Rattle.verdict.specs.declared.rule.Rule.TheVariants as rules
@@ -140,6 +140,19 @@ no_giveup (expireds.Rto growth) not is = absurd cc
 no_giveup expireds.Persist not is = absurd cc
 no_giveup expireds.Msl2 not is = absurd cc
 no_giveup expireds.Giveup not is = not refl
+no_giveup expireds.Pto not is = absurd cc
+
+-- none probes for a loss
+never_probes : (h : Header) (e : Endpoint) (moment : ℕ) (x : Expired) → timer_of x ≡ Pto → first_broken (expiry_rules h moment e x) ≡ None → ⊥
+never_probes h e moment (expireds.Rto growth) kind may = absurd cc
+never_probes h e moment expireds.Persist kind may = absurd cc
+never_probes h e moment expireds.Msl2 kind may = absurd cc
+never_probes h e moment expireds.Giveup kind may = absurd cc
+never_probes h e moment expireds.Pto kind may = absurd (let t = none_all (expiry_rules h moment e expireds.Pto) may in let off = t.1.1.0 in cc)
+
+no_slow_probe : (h : Header) (e : Endpoint) (o : Option ℕ) → IsSlow h e Pto o
+no_slow_probe h e None = never_probes h e
+no_slow_probe h e (Some n) = λ moment x kind before may. never_probes h e moment x kind may
 
 module _ (h : Header) (e : Endpoint) (again probe over all : Option ℕ) (is_again : IsSlow h e Rto again)
     (is_probe : IsSlow h e Persist probe) (is_over : IsSlow h e Msl2 over)
@@ -151,6 +164,7 @@ module _ (h : Header) (e : Endpoint) (again probe over all : Option ℕ) (is_aga
       (least_right h e Persist again (least probe over) (least_left h e Persist probe over is_probe))
   each Msl2 not = subst (λ (o : Option ℕ). IsSlow h e Msl2 o) (sym is) (least_right h e Msl2 again (least probe over) (least_right h e Msl2 probe over is_over))
   each Giveup not = absurd (not refl)
+  each Pto not = no_slow_probe h e all
 
   pub still_before : IfSome all (λ m. IsStillBefore h m e)
   still_before = by all each
@@ -309,6 +323,7 @@ again_slow h e o due = slow_if h e Rto o by
     by moment expireds.Persist kind may = absurd cc
     by moment expireds.Msl2 kind may = absurd cc
     by moment expireds.Giveup kind may = absurd cc
+    by moment expireds.Pto kind may = absurd cc
 
 pub wait_slow : (h : Header) (e : Endpoint) (time : ℕ) (o : Option ℕ) → time ≤ 2 * h.msl → IsDueSince e.timers.msl_armed time h.grain o → IsSlow h e Msl2 o
 wait_slow h e time o low due = slow_if h e Msl2 o by
@@ -321,6 +336,7 @@ wait_slow h e time o low due = slow_if h e Msl2 o by
     by moment (expireds.Rto growth) kind may = absurd cc
     by moment expireds.Persist kind may = absurd cc
     by moment expireds.Giveup kind may = absurd cc
+    by moment expireds.Pto kind may = absurd cc
 
 -- a probe needs something to send
 needs : (armed up more : Bool) → not (armed && up && more) ≡ false → (not armed ≡ false) × (up ≡ true) × (more ≡ true)
@@ -342,11 +358,13 @@ probe_slow h e o due = slow_if h e Persist o by
     by moment (expireds.Rto growth) kind may = absurd cc
     by moment expireds.Msl2 kind may = absurd cc
     by moment expireds.Giveup kind may = absurd cc
+    by moment expireds.Pto kind may = absurd cc
 
 pub no_probe : (h : Header) (e : Endpoint) → (is_up e ≡ false) ⊎ (has_more e ≡ false) → IsSlow h e Persist None
 no_probe h e lacks moment (expireds.Rto growth) kind may = absurd cc
 no_probe h e lacks moment expireds.Msl2 kind may = absurd cc
 no_probe h e lacks moment expireds.Giveup kind may = absurd cc
+no_probe h e lacks moment expireds.Pto kind may = absurd cc
 no_probe h e lacks moment expireds.Persist kind may =
     by lacks (needs (is_some e.timers.persist_armed) (is_up e) (has_more e)
     (none_all (expiry_rules h moment e expireds.Persist) may).1.1.0)

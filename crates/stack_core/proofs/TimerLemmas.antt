@@ -6,7 +6,7 @@ use Rattle.std.proofs.lemmas.Bool.Decides.{nat_tests}
 use Rattle.std.proofs.lemmas.Option.{none-some, same_Some}
 use Rattle.case_forms.specs.declared.calls.Ports.{Ports}
 use Rattle.case_forms.specs.declared.taken_line.Expired.{Expired}
-use Rattle.case_forms.specs.declared.taken_line.Expired.TheVariants.{Giveup, Msl2, Persist, Rto}
+use Rattle.case_forms.specs.declared.taken_line.Expired.TheVariants.{Giveup, Msl2, Persist, Pto, Rto}
 use Rattle.case_forms.specs.declared.calls.Host.{Host}
 use Rattle.case_forms.specs.declared.trace.Header.{Header}
 use Rattle.verdict.specs.Rules.{first_broken}
@@ -46,17 +46,12 @@ timer_may h moment e (Rto growth) may =
 timer_may h moment e Persist may = may
 timer_may h moment e Msl2 may = may
 timer_may h moment e Giveup may = may
+timer_may h moment e Pto may = may
 
 pub kept_there : (es : List Endpoint) (i : ℕ) (e : Endpoint) → slice_get es i ≡ Some e → slice_get (map forget_endpoint es) i ≡ Some (forget_endpoint e)
 kept_there [] i e is = absurd (none-some e is)
 kept_there (x ∷ es) zero e is = ap (λ (y : Endpoint). Some (forget_endpoint y)) (same_Some x e is)
 kept_there (x ∷ es) (suc i) e is = kept_there es i e is
-
-by_kind : (r : Recorded) (moment : ℕ) (ports : Ports) → IsRefused r moment ports → (x : Expired) → (x ≡ Giveup → ⊥) → IsNotDueAt r moment ports (least x)
-by_kind r moment ports is (Rto growth) not = is.rto
-by_kind r moment ports is Persist not = is.persist
-by_kind r moment ports is Msl2 not = is.msl2
-by_kind r moment ports is Giveup not = absurd (not refl)
 
 -- the rules at the endpoint of ports
 at_ports : (r : Recorded) (moment : ℕ) (x : Expiring) (o : Option Endpoint) → endpoint_of (pick (world_left r).hosts r.me).body x.lport x.rport ≡ o
@@ -67,6 +62,23 @@ at_ports r moment x o is may =
     subst (λ (o : Option Endpoint).
     first_broken (option_map_or (λ e. expiry_rules r.header moment e x.expired) o ((rules.NoEndpoint, true) ∷ []))
     ≡ None) is may
+
+-- none probes for a loss
+no_loss_probe : (r : Recorded) (moment : ℕ) (ports : Ports) → IsNotDueAt r moment ports Pto
+no_loss_probe r moment ports may =
+    by (endpoint_of (pick (world_left r).hosts r.me).body ports.lport ports.rport)
+    (at_ports r moment (record { lport = ports.lport; rport = ports.rport; expired = Pto }) _ refl may)
+  where
+    by : (o : Option Endpoint) → first_broken (option_map_or (λ e. expiry_rules r.header moment e Pto) o ((rules.NoEndpoint, true) ∷ [])) ≡ None → ⊥
+    by None is = absurd cc
+    by (Some e) is = absurd (let t = none_all (expiry_rules r.header moment e Pto) is in let off = t.1.1.0 in cc)
+
+by_kind : (r : Recorded) (moment : ℕ) (ports : Ports) → IsRefused r moment ports → (x : Expired) → (x ≡ Giveup → ⊥) → IsNotDueAt r moment ports (least x)
+by_kind r moment ports is (Rto growth) not = is.rto
+by_kind r moment ports is Persist not = is.persist
+by_kind r moment ports is Msl2 not = is.msl2
+by_kind r moment ports is Giveup not = absurd (not refl)
+by_kind r moment ports is Pto not = no_loss_probe r moment ports
 
 back_at : (r : Recorded) (moment : ℕ) (x : Expiring) (e : Endpoint) → endpoint_of (pick (world_left r).hosts r.me).body x.lport x.rport ≡ Some e
     → first_broken (expiry_rules r.header moment e x.expired) ≡ None → Permitted (tcp r.header) moment (world_left r) (At r.me (Expires 0 x))

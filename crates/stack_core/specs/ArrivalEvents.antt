@@ -3,6 +3,7 @@ use Rattle.std.specs.Prelude.{◌≡◌, ◌⊎◌, ◌+◌, ℕ, Bool, true, fa
 use Rattle.case_forms.specs.declared.calls.Ports.{Ports}
 use Rattle.case_forms.specs.declared.steps.TakeChoice.{TakeChoice}
 use Rattle.case_forms.specs.declared.timer.Recovery.{Recovery}
+use Rattle.case_forms.specs.declared.timer.RecoveryChange.TheVariants.{Begins}
 use Rattle.case_forms.specs.declared.trace.Wire.{Wire}
 use Rattle.spec_network.specs.Tables.{pick, waiting}
 use Rattle.spec_network.specs.Hosts.{Answers, At, Does, Drops, Gets, Takes}
@@ -51,28 +52,29 @@ IsChoice c n choice = (choice.keep ≡ true) × MayTake c n × MayDo c (At c.rec
 abbrev pub MayReset : Core → ℕ → Type 0
 MayReset c n = MayDo c (At c.recorded.me (Answers n))
 
--- fast recovery may begin at the endpoint of these ports
+-- fast recovery begins at the endpoint of these ports with these values
+abbrev pub beginning : Ports → (cwnd ssthresh : ℕ) → Recovery
+beginning ports cwnd ssthresh =
+    record { change = Begins; lport = ports.lport; rport = ports.rport; cwnd = cwnd; ssthresh = ssthresh }
+
+-- it may
 abbrev pub MayRecover : Core → Ports → Type 0
 MayRecover c ports =
-    (cwnd : ℕ) × (ssthresh : ℕ) ×
-    MayDo c (At c.recorded.me
-    (Does (record { lport = ports.lport; rport = ports.rport; cwnd = cwnd; ssthresh = ssthresh })))
+    (cwnd : ℕ) × (ssthresh : ℕ) × MayDo c (At c.recorded.me (Does (beginning ports cwnd ssthresh)))
 
 -- it may begin there with these values
 abbrev pub IsRecoveryAt : Core → Ports → Recovery → Type 0
-IsRecoveryAt c ports x = (x.lport ≡ ports.lport) × (x.rport ≡ ports.rport) × MayDo c (At c.recorded.me (Does x))
+IsRecoveryAt c ports x =
+    (x.lport ≡ ports.lport) × (x.rport ≡ ports.rport) × (x.change ≡ Begins) × MayDo c (At c.recorded.me (Does x))
 
 -- it may not begin with these values
 abbrev pub IsRefusedRecovery : Core → Ports → (cwnd ssthresh : ℕ) → Type 0
-IsRefusedRecovery c ports cwnd ssthresh =
-    MayDo c (At c.recorded.me
-    (Does (record { lport = ports.lport; rport = ports.rport; cwnd = cwnd; ssthresh = ssthresh }))) →
-    ⊥
+IsRefusedRecovery c ports cwnd ssthresh = MayDo c (At c.recorded.me (Does (beginning ports cwnd ssthresh))) → ⊥
 
 -- it began, exactly if it may
 abbrev pub IsRecovered : Core → Ports → Core → Type 0
 IsRecovered c ports d =
-    ((x : Recovery) × (x.lport ≡ ports.lport) × (x.rport ≡ ports.rport) ×
+    ((x : Recovery) × (x.lport ≡ ports.lport) × (x.rport ≡ ports.rport) × (x.change ≡ Begins) ×
     (d ≡ with_step c (At c.recorded.me (Does x)))) ⊎ ((d ≡ c) × (MayRecover c ports → ⊥))
 
 -- what waits was taken with its bytes, and fast recovery began if it may; else it was answered by a reset; else it was

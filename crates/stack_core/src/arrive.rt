@@ -23,7 +23,9 @@ use crate::host_core::HostCore;
 use crate::send_states::{Before, Seen};
 use crate::tick::Tick;
 use crate::transit::Flying;
-use case_forms::{OutOfMemory, Ports, Recovery, RtoChoice, TakeChoice, TakenLine};
+use case_forms::{
+    OutOfMemory, Ports, Recovery, RecoveryChange, RtoChoice, TakeChoice, TakenLine,
+};
 use endpoint::is_past_lifetime;
 use recording_parts::{choice_if, is_own, with_bytes};
 use spec_step::Label;
@@ -252,6 +254,7 @@ impl HostCore {
         ensures none { IfNone result (IsRefusedRecovery self.now ports cwnd ssthresh) }
     {
         let recovery = Recovery {
+            change: RecoveryChange::Begins,
             lport: ports.lport,
             rport: ports.rport,
             cwnd,

@@ -189,7 +189,7 @@ impl SendState {
     pub(crate) fn after_expiry(mut self, now: &Endpoint, expired: Expired) -> SendState {
         match expired {
             Expired::Rto(_) | Expired::Persist => self.again = Some(all_outstanding(now)),
-            Expired::Msl2 | Expired::Giveup => {}
+            Expired::Msl2 | Expired::Giveup | Expired::Pto => {}
         }
         self
     }

@@ -66,7 +66,12 @@ fn is_shared(version: Version, line: u64) -> bool {
     match version {
         Version::One => 1 < line && line < 7,
         Version::Two | Version::Three => 1 < line && line < 8,
-        Version::Four | Version::FourHalf | Version::Five | Version::FiveHalf => false,
+        Version::Four
+        | Version::FourHalf
+        | Version::Five
+        | Version::FiveHalf
+        | Version::Six
+        | Version::SixHalf => false,
     }
 }
 
@@ -154,7 +159,12 @@ fn is_same(rewritten: &Rewritten) -> bool {
     match rewritten.read_as {
         Version::One => !rewritten.carries_a_shift(),
         Version::Two | Version::Three => true,
-        Version::Four | Version::FourHalf | Version::Five | Version::FiveHalf => false,
+        Version::Four
+        | Version::FourHalf
+        | Version::Five
+        | Version::FiveHalf
+        | Version::Six
+        | Version::SixHalf => false,
     }
 }
 

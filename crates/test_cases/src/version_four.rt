@@ -110,12 +110,16 @@ fn rewritten_version(version: Version) -> Version {
         Version::Three | Version::FourHalf => Version::FourHalf,
         Version::Five => Version::Five,
         Version::FiveHalf => Version::FiveHalf,
+        Version::Six => Version::Six,
+        Version::SixHalf => Version::SixHalf,
     }
 }
 
 // Version 5 for the same count of recorded hosts.
 fn later_version(version: Version) -> Version {
-    if version.is_half() {
+    if version.says_sender() {
+        version
+    } else if version.is_half() {
         Version::FiveHalf
     } else {
         Version::Five

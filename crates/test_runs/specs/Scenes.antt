@@ -1,5 +1,7 @@
 -- What both hosts of a scene begin with.
 use Rattle.std.specs.Prelude.{None}
+use Rattle.case_forms.specs.declared.version.Growth.TheVariants.{OneSegment}
+use Rattle.case_forms.specs.declared.version.Sender.TheVariants.{Reno}
 use Rattle.case_forms.specs.declared.trace.Header.{Header}
 use Rattle.case_forms.specs.declared.version.Initial.TheVariants.{Rfc5681}
 use Rattle.case_forms.specs.declared.version.Judged.TheVariants.{Full}
@@ -17,4 +19,6 @@ test_header =
       initial = Rfc5681;
       congestion = Full;
       slack = None;
+      sender = Reno;
+      growth = OneSegment;
     }

@@ -1,5 +1,7 @@
 -- Values of RFC 6298, said of the definitions, so that a slip in one of them does not check.
 use Rattle.std.proofs.Common.{◌≡◌, ℕ, refl, Option, None, Some}
+use Rattle.case_forms.specs.declared.version.Growth.TheVariants.{OneSegment}
+use Rattle.case_forms.specs.declared.version.Sender.TheVariants.{Reno}
 use Rattle.case_forms.specs.declared.trace.Header.{Header}
 use Rattle.case_forms.specs.declared.version.Version.TheVariants.{One}
 use Rattle.case_forms.specs.declared.version.Initial.TheVariants.{Rfc5681}
@@ -12,7 +14,19 @@ use Rattle.timer_rules.specs.Timers.{start, sampled, backed_off, raised_for_lost
 -- a clock tick of a millisecond, a lifetime of two minutes, and this minimum of the timeout
 abbrev header : ℕ → Header
 header minrto =
-    record { version = One; skew = 0; msl = 120000000; grain = 1000; minrto = minrto; extra = 0; initial = Rfc5681; congestion = Full; slack = None }
+    record {
+      version = One;
+      skew = 0;
+      msl = 120000000;
+      grain = 1000;
+      minrto = minrto;
+      extra = 0;
+      initial = Rfc5681;
+      congestion = Full;
+      slack = None;
+      sender = Reno;
+      growth = OneSegment;
+    }
 
 -- what samples leave of the timers
 abbrev estimate : Option ℕ → ℕ → ℕ → Timers

@@ -5,7 +5,7 @@ use Rattle.std.specs.Prelude.{if◌then◌else◌}
 use Rattle.std.specs.Option.{option_map_or}
 use Rattle.case_forms.specs.declared.trace.Header.{Header}
 use Rattle.case_forms.specs.declared.timer.Timer.{Timer}
-use Rattle.case_forms.specs.declared.timer.Timer.TheVariants.{Rto, Persist, Msl2, Giveup}
+use Rattle.case_forms.specs.declared.timer.Timer.TheVariants.{Rto, Persist, Msl2, Giveup, Pto}
 use Rattle.timer_rules.specs.declared.fault.TimerFault.{TimerFault}
 use Rattle.timer_rules.specs.declared.fault.TimerFault.TheVariants.{Off, Early}
 use Rattle.timer_rules.specs.declared.timers.Timers.{Timers}
@@ -31,12 +31,13 @@ backed_off t = record t { rto = doubled t.rto }
 abbrev pub raised_for_lost_syn : Timers → Timers
 raised_for_lost_syn t = record t { rto = max t.rto lost_syn_rto }
 
--- since when a timer is armed; giving up is not one of these timers
+-- since when a timer is armed; giving up and probing for a loss are not among these timers
 abbrev pub armed_since : Timers → Timer → Option ℕ
 armed_since t Rto = t.rto_armed
 armed_since t Persist = t.persist_armed
 armed_since t Msl2 = t.msl_armed
 armed_since t Giveup = None
+armed_since t Pto = None
 
 -- a timer is armed since some moment, or off; the others stay
 abbrev pub with_timer : Timers → Timer → Option ℕ → Timers
@@ -44,6 +45,7 @@ with_timer t Rto since = record t { rto_armed = since }
 with_timer t Persist since = record t { persist_armed = since }
 with_timer t Msl2 since = record t { msl_armed = since }
 with_timer t Giveup since = t
+with_timer t Pto since = t
 
 -- a timer is armed at a moment
 abbrev pub armed : Timers → Timer → ℕ → Timers
@@ -64,6 +66,7 @@ run_time t Rto h = t.rto
 run_time t Persist h = t.rto
 run_time t Msl2 h = 2 * h.msl
 run_time t Giveup h = 0
+run_time t Pto h = 0
 
 -- the earliest moment of an expiry: a clock tick before the timer ran out, never before it was armed (RFC 6298, 4)
 abbrev pub earliest : ℕ → ℕ → ℕ → ℕ
@@ -90,3 +93,4 @@ expired t Rto moment = armed (backed_off t) Rto moment
 expired t Persist moment = armed t Persist moment
 expired t Msl2 moment = stopped t Msl2
 expired t Giveup moment = t
+expired t Pto moment = t

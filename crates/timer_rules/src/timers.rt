@@ -16,7 +16,7 @@ pub const LONGEST_RTO: u64 = 60_000_000;
 /// The timers of an endpoint. All times and moments are in microseconds.
 ///
 /// These are the retransmission timer, the persist timer and the wait in TIME-WAIT. `Timer::Giveup` is never armed, so
-/// the calls that name a timer accept any but that one.
+/// the calls that name a timer accept any but that one. `Timer::Pto` is always off here: to arm it does nothing.
 #[derive(Clone, Copy, Debug, PartialEq, Eq)]
 pub struct Timers {
     /// The smoothed round trip time (SRTT); `None` before the first sample.
@@ -119,6 +119,7 @@ impl Timers {
             }
             Timer::Persist => self.persist_armed = Some(moment),
             Timer::Msl2 => self.msl_armed = None,
+            Timer::Pto => {}
             Timer::Giveup => unreachable!(),
         }
         Ok(())
@@ -150,6 +151,7 @@ impl Timers {
             Timer::Rto => self.rto_armed,
             Timer::Persist => self.persist_armed,
             Timer::Msl2 => self.msl_armed,
+            Timer::Pto => None,
             Timer::Giveup => unreachable!(),
         }
     }
@@ -162,6 +164,7 @@ impl Timers {
             Timer::Rto => self.rto_armed = since,
             Timer::Persist => self.persist_armed = since,
             Timer::Msl2 => self.msl_armed = since,
+            Timer::Pto => {}
             Timer::Giveup => unreachable!(),
         }
     }
@@ -174,6 +177,7 @@ impl Timers {
         match timer {
             Timer::Rto | Timer::Persist => self.rto as u128,
             Timer::Msl2 => 2 * header.msl as u128,
+            Timer::Pto => 0,
             Timer::Giveup => unreachable!(),
         }
     }

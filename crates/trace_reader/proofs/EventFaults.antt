@@ -21,7 +21,7 @@ use Rattle.line_fields.specs.Forms.{Form, End, Then, numeric, named, digits, the
 use Rattle.line_fields.specs.HexFields.{or_bad, hex_value, hex_field}
 use Rattle.line_fields.specs.Hosts.{host_field}
 use Rattle.line_fields.specs.Reading.{◌>>=◌, fault_at, is_number, number_value, number_field, no_more}
-use Rattle.line_fields.specs.Timers.{timer_name, all_timers}
+use Rattle.line_fields.specs.Timers.{timer_name, timers_of}
 use Rattle.line_fields.specs.Word.{Word, Rest}
 use Rattle.line_fields.specs.declared.fault.FaultKind.TheVariants as kinds
 use Rattle.line_fields.specs.declared.fault.TextFault.{TextFault}
@@ -149,13 +149,13 @@ event_then {Y} v f on letters.E r =
 event_then {Y} v f on letters.O r = wires_then v (λ seen. events.Sent seen.0 seen.1) f on r
 event_then {Y} v f on letters.I r = wires_then v (λ seen. events.Came seen.0 seen.1) f on r
 event_then {Y} v f on letters.T r =
-    assoc (host_field v r) _ f ∙ host_then v (port (port (then_form (named timer_name all_timers) End))) _
+    assoc (host_field v r) _ f ∙ host_then v (port (port (then_form (named timer_name (timers_of v)) End))) _
     (λ host more. assoc (number_field 1 65535 more) _ f
-    ∙ number_then 1 65535 (port (then_form (named timer_name all_timers) End)) _
+    ∙ number_then 1 65535 (port (then_form (named timer_name (timers_of v)) End)) _
     (λ local next. assoc (number_field 1 65535 next) _ f
-    ∙ number_then 1 65535 (then_form (named timer_name all_timers) End) _
-    (λ remote last. assoc (kind_field timer_name all_timers last) _ f
-    ∙ kind_then timer_name all_timers End _
+    ∙ number_then 1 65535 (then_form (named timer_name (timers_of v)) End) _
+    (λ remote last. assoc (kind_field timer_name (timers_of v) last) _ f
+    ∙ kind_then timer_name (timers_of v) End _
     (λ timer rest. on (events.Expired host local remote timer) rest) last) next) more) r
 
 -- lines

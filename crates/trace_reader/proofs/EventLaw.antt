@@ -16,12 +16,12 @@ use Rattle.line_fields.specs.Word.{Rest}
 use Rattle.line_fields.specs.Reading.{◌>>=◌, number_field}
 use Rattle.line_fields.specs.Hosts.{host_number, IsHost, host_field}
 use Rattle.line_fields.specs.Choice.{kind_field}
-use Rattle.line_fields.specs.Timers.{timer_name, all_timers}
+use Rattle.line_fields.specs.Timers.{timer_name, timers_of, IsTimer}
 use Rattle.line_fields.specs.Reader.{texts, Any, Nothing, IsReader, IsLastReader}
 use Rattle.line_fields.specs.Spelling.{IsClean, AreWritten}
 use Rattle.line_fields.specs.AnswerFields.{answer_field}
 use Rattle.line_fields.proofs.Readers.{IsNumberField, bind_ok, ok_is, reads_then, reads_done, reads_as, reads_number}
-use Rattle.line_fields.proofs.Choices.{AreNamed, IsBehind, reads_kind, reads_choice, is_known}
+use Rattle.line_fields.proofs.Choices.{AreNamed, IsBehind, reads_kind_among, reads_choice, is_known}
 use Rattle.line_fields.proofs.Written.{IsCleanPiece, plains_are, hex_is}
 use Rattle.line_fields.proofs.Names.{timers_named, timer_clean}
 use Rattle.line_fields.proofs.HostLaw.{IsHostField, reads_host, host_clean}
@@ -81,11 +81,11 @@ module _ (version : Version) where
       × IsEvent version (events.Expired h p q timer)
       × (ws ≡ decimal (host_number h) ∷ decimal p ∷ decimal q ∷ timer_name timer ∷ [])
 
-  abbrev IsTimer : Timer → List (List ℕ) → Type 0
-  IsTimer timer ws = ws ≡ timer_name timer ∷ []
+  abbrev IsTimerField : Timer → List (List ℕ) → Type 0
+  IsTimerField timer ws = IsTimer version timer × (ws ≡ timer_name timer ∷ [])
 
   abbrev expires : Host → ℕ → ℕ → Rest → Result (Event × Rest) TextFault
-  expires h p q r = kind_field timer_name all_timers r >>= λ timer. Ok (events.Expired h p q timer.0, timer.1)
+  expires h p q r = kind_field timer_name (timers_of version) r >>= λ timer. Ok (events.Expired h p q timer.0, timer.1)
 
   reads_expired : IsReader (expired_fields version) IsExpired
   unfolding expired_fields
@@ -97,11 +97,11 @@ module _ (version : Version) where
       (λ h. reads_then Any (number_field 1 65535) (IsNumberField 1 65535)
       (λ p r. number_field 1 65535 r >>= λ q. expires h p q.0 q.1) _ (reads_number 1 65535 (omega arith))
       (λ p. reads_then Any (number_field 1 65535) (IsNumberField 1 65535) (λ q r. expires h p q r) _ (reads_number 1 65535 (omega arith))
-      (λ q. reads_then Any (kind_field timer_name all_timers) IsTimer (λ timer r. Ok (events.Expired h p q timer, r))
+      (λ q. reads_then Any (kind_field timer_name (timers_of version)) IsTimerField (λ timer r. Ok (events.Expired h p q timer, r))
       (λ timer v ws. (v ≡ events.Expired h p q timer) × (ws ≡ []))
-      (reads_kind timer_name all_timers timers_named) (λ timer. reads_done Any (events.Expired h p q timer))))))
+      (reads_kind_among timer_name (timers_of version) (IsTimer version) (timers_named version)) (λ timer. reads_done Any (events.Expired h p q timer))))))
       (λ v ws d. let e = d.4 in let f = e.4 in let g = f.4 in
-      (d.0, e.0, f.0, g.0, g.4.0, (d.3.0, e.3.0, e.3.1, f.3.0, f.3.1), rw (d.5, d.3.1, e.5, e.3.2, f.5, f.3.2, g.5, g.3, g.4.1) refl))
+      (d.0, e.0, f.0, g.0, g.4.0, (d.3.0, e.3.0, e.3.1, f.3.0, f.3.1, g.3.0), rw (d.5, d.3.1, e.5, e.3.2, f.5, f.3.2, g.5, g.3.1, g.4.1) refl))
       (λ v ws s. (
         s.0,
         decimal (host_number s.0) ∷ [],
@@ -112,7 +112,7 @@ module _ (version : Version) where
           decimal s.1 ∷ [],
           decimal s.2 ∷ timer_name s.3 ∷ [],
           (s.5.1, s.5.2, refl),
-          (s.2, decimal s.2 ∷ [], timer_name s.3 ∷ [], (s.5.3, s.5.4, refl), (s.3, timer_name s.3 ∷ [], [], refl, (s.4, refl), refl), refl),
+          (s.2, decimal s.2 ∷ [], timer_name s.3 ∷ [], (s.5.3, s.5.4, refl), (s.3, timer_name s.3 ∷ [], [], (s.5.5, refl), (s.4, refl), refl), refl),
           refl,
         ),
         s.6,

@@ -8,20 +8,25 @@ use Rattle.std.specs.Str.Parse.{digits_value}
 use Rattle.std.proofs.lemmas.Bool.{eqb-true}
 use Rattle.std.proofs.lemmas.Slice.Eq.{bytes_eq-Decides}
 use Rattle.case_forms.specs.declared.version.Version.{Version}
-use Rattle.case_forms.specs.declared.version.Version.TheVariants.{One, Two, Three, Four, FourHalf, Five, FiveHalf}
+use Rattle.case_forms.specs.declared.version.Version.TheVariants.{One, Two, Three, Four, FourHalf, Five, FiveHalf, Six, SixHalf}
 use Rattle.case_forms.specs.declared.version.Initial.{Initial}
 use Rattle.case_forms.specs.declared.version.Initial.TheVariants.{Rfc5681, Rfc6928}
 use Rattle.case_forms.specs.declared.version.Judged.{Judged}
-use Rattle.case_forms.specs.declared.version.Judged.TheVariants.{Full}
-use Rattle.case_forms.specs.Versions.{named_as, says_slack}
-use Rattle.line_fields.specs.Choice.{kind_named, kind_value}
-use Rattle.line_fields.specs.Congestion.{judged_name, all_judged}
+use Rattle.case_forms.specs.declared.version.Judged.TheVariants.{Full, Recovery, NoControl}
+use Rattle.case_forms.specs.declared.version.Growth.{Growth}
+use Rattle.case_forms.specs.declared.version.Growth.TheVariants.{OneSegment}
+use Rattle.case_forms.specs.declared.version.Sender.{Sender}
+use Rattle.case_forms.specs.declared.version.Sender.TheVariants.{Reno}
+use Rattle.case_forms.specs.Versions.{named_as, says_sender, says_slack}
+use Rattle.line_fields.specs.Choice.{kind_named, kind_value, kind_field}
+use Rattle.line_fields.specs.Congestion.{judged_of, judged_value, judged_field}
 use Rattle.line_fields.specs.Faults.{missing_line}
-use Rattle.line_fields.specs.Forms.{numeric, named}
+use Rattle.line_fields.specs.Forms.{numeric, unknown, named}
 use Rattle.line_fields.specs.Hosts.{hosted}
 use Rattle.line_fields.specs.LineFaults.{IsTextFaultOf, IsNextFault}
 use Rattle.line_fields.specs.Lines.{line_rest}
-use Rattle.line_fields.specs.Reading.{◌>>=◌, fault_at, missing, first_of, next_field, is_number, number_value, number_field}
+use Rattle.line_fields.specs.Reading.{◌>>=◌, fault_at, missing, first_of, next_field, is_number, number_value, number_field, or_fault}
+use Rattle.line_fields.specs.Sender.{sender_name, all_senders, growth_name, all_growths}
 use Rattle.line_fields.specs.Slack.{begins_digit, slack_value, slack_field}
 use Rattle.line_fields.specs.Word.{Word, Rest}
 use Rattle.line_fields.specs.declared.fault.FaultKind.{FaultKind}
@@ -31,16 +36,19 @@ use Rattle.line_fields.proofs.FieldFaults.{Agrees, number_agrees, named_agrees}
 use Rattle.line_fields.proofs.LineFaults.{whole_is, other_text, text_faults}
 use Rattle.line_fields.proofs.LineRests.{some_word}
 use Rattle.line_fields.proofs.Readers.{field_by}
-use Rattle.trace_reader.specs.HeaderForms.{IsFirstText, Row, row, initial_want, slack_want, last_rows, judged_rows, late_rows}
+use Rattle.trace_reader.specs.HeaderForms.{IsFirstText, Row, row, initial_want, slack_want, judged_want, control_rows, last_rows, judged_rows, late_rows}
 use Rattle.trace_reader.specs.HeaderForms.{header_rows, AreNamed, Fits, Breaks, Other, Bad, More}
 use Rattle.trace_reader.specs.HeaderForms.{IsRow, IsRowFault, AreRows, IsRowsFault, IsHeaderFault, First, Rows}
 use Rattle.trace_reader.specs.declared.late_lines.LateLines.{LateLines}
 use Rattle.trace_reader.specs.Headers.{initial_number, header_fault, some_left, named_rest, alone, value_line, next_value}
 use Rattle.trace_reader.specs.Headers.{version_in, first_version, first_line, initial_of, initial_value, initial_field}
 use Rattle.trace_reader.specs.Headers.{initial_line, half_line, hosts_line, congestion_line, slack_line, last_line}
+use Rattle.trace_reader.specs.Headers.{sender_line, growth_line, both_lines, control_lines}
 use Rattle.trace_reader.specs.Headers.{late, judged_lines, late_lines, header_with, header_of}
 use Rattle.trace_reader.proofs.HeaderLaw.{Raws, Headed, is_first, version_taken, version_given, version_takes, version_again}
 use Rattle.trace_reader.proofs.HeaderLaw.{with_first, with_skew, with_msl, with_grain, with_minrto, with_extra}
+use Rattle.trace_reader.proofs.HeaderLaw.{with_host, with_half, with_growth, with_sender, slack_too}
+use Rattle.trace_reader.proofs.HeaderLaw.{with_control, with_last, with_congestion, with_hosts, with_judged}
 
 abbrev bad : {A : Type 0} → TextFault → Result A TextFault
 bad e = Err e
@@ -399,11 +407,35 @@ heads_as number rows read other same on raws e = (λ is. (on raws e).0 (sym (sam
 no_more_rows : {B : Type 0} (number : ℕ) (given : Raws → B) → Heads number [] (λ raws. good (given raws))
 no_more_rows number given raws e = (λ same. absurd cc, λ g. absurd g)
 
-congestion_then : {B : Type 0} (rows : List Row) (next : Judged × Raws → Result B TextFault) → ((j : Judged) → Heads 10 rows (λ raws. next (j, raws)))
-    → Heads 9 (row (codes "congestion") (named judged_name all_judged) ∷ rows) (λ raws. congestion_line raws >>= next)
-congestion_then rows next on =
-    row_then (kind_value judged_name all_judged) (row (codes "congestion") (named judged_name all_judged))
-    (λ w. named_agrees w (kind_named judged_name all_judged w.text)) 9 rows next on
+-- what is read in two steps
+grouped : {A B C : Type 0} (number : ℕ) (rows : List Row) (m : Raws → Result A TextFault) (g : A → Result B TextFault) (f : B → Result C TextFault)
+    → Heads number rows (λ raws. m raws >>= λ x. g x >>= f) → Heads number rows (λ raws. (m raws >>= g) >>= f)
+grouped number rows m g f on = heads_as number rows _ (λ raws. m raws >>= λ x. g x >>= f) (λ raws. regroup (m raws) g f) on
+
+abbrev word_of : Bool → Bool → Bool → Option Judged
+word_of full recovery none = if full then Some Full else if recovery then Some Recovery else if none then Some NoControl else None
+
+-- one of these words, and in version 6 not `full`
+judged_agrees : (v : Version) (w : Word) → Agrees (judged_value v w) (judged_want v w) w
+judged_agrees v w = go (says_sender v) refl (bytes_eq w.text (codes "full")) (bytes_eq w.text (codes "recovery")) (bytes_eq w.text (codes "none"))
+  where
+    go : (says : Bool) → says_sender v ≡ says → (a b c : Bool)
+        → Agrees (or_fault (fault_at kinds.Field w) (word_of a b c) >>= judged_of v w)
+        (if says && a then Some kinds.Field else unknown (word_of a b c)) w
+    go true is true b c = rw is refl
+    go false is true b c = rw is tt
+    go true is false true c = tt
+    go false is false true c = tt
+    go true is false false true = tt
+    go false is false false true = tt
+    go true is false false false = refl
+    go false is false false false = refl
+
+congestion_then : {B : Type 0} (v : Version) (rows : List Row) (next : Judged × Raws → Result B TextFault)
+    → ((j : Judged) → Heads 10 rows (λ raws. next (j, raws)))
+    → Heads 9 (row (codes "congestion") (judged_want v) ∷ rows) (λ raws. congestion_line v raws >>= next)
+unfolding judged_field
+congestion_then v rows next on = row_then (judged_value v) (row (codes "congestion") (judged_want v)) (judged_agrees v) 9 rows next on
 
 -- how late a host may be
 known : (v : Result ℕ TextFault) (k : Option FaultKind) (w : Word) → Agrees v k w → Agrees (v >>= λ n. good (Some n)) k w
@@ -423,89 +455,94 @@ slack_agrees w = go (bytes_eq w.text (codes "any")) (begins_digit w.text)
         known (number_value 0 1000000000000000000 w) (numeric 0 1000000000000000000 w) w (number_agrees 0 1000000000000000000 w)
     go false false = refl
 
-last_then : {B : Type 0} (v : Version) (f : Option ℕ × Raws → B) → Heads 10 (last_rows v) (λ raws. last_line v raws >>= λ o. good (f o))
+last_then : {B : Type 0} (v : Version) (next : Option ℕ × Raws → Result B TextFault)
+    → ((o : Option ℕ) → Heads 11 (control_rows v) (λ raws. next (o, raws))) → Heads 10 (last_rows v) (λ raws. last_line v raws >>= next)
 unfolding slack_field
-last_then {B} v f = go (says_slack v)
+last_then {B} v next on = go (says_slack v) refl
   where
+    go : (b : Bool) → says_slack v ≡ b
+        → Heads 10 (if b then row (codes "slack") slack_want ∷ control_rows v else []) (λ raws. (if b then slack_line raws else good (None, raws)) >>= next)
+    go true is = row_then slack_value (row (codes "slack") slack_want) slack_agrees 10 (control_rows v) next on
+    go false is =
+        let none = slack_too v is in
+        let rows : control_rows v ≡ [] = rw none refl in
+        subst (λ (rs : List Row). Heads 11 rs (λ raws. next (None, raws))) rows (on None)
+
+-- a line of a name and one of some words
+word_then : {K B : Type 0} (name : List ℕ) (word : K → List ℕ) (kinds : List K) (number : ℕ) (rows : List Row) (next : K × Raws → Result B TextFault)
+    → ((k : K) → Heads (number + 1) rows (λ raws. next (k, raws)))
+    → Heads number (row name (named word kinds) ∷ rows) (λ raws. next_value number name (kind_field word kinds) raws >>= next)
+word_then name word kinds number rows next on =
+    row_then (kind_value word kinds) (row name (named word kinds)) (λ w. named_agrees w (kind_named word kinds w.text)) number rows next on
+
+control_then : {B : Type 0} (v : Version) (f : (Sender × Growth) × Raws → B) → Heads 11 (control_rows v) (λ raws. control_lines v raws >>= λ k. good (f k))
+unfolding both_lines
+control_then {B} v f = go (says_sender v)
+  where
+    growth_row : List Row
+    growth_row = row (codes "growth") (named growth_name all_growths) ∷ []
+
+    end : (Sender × Growth) × Raws → Result B TextFault
+    end k = good (f k)
+
+    both : Heads 11 (row (codes "sender") (named sender_name all_senders) ∷ growth_row) (λ raws. (sender_line raws >>= with_sender) >>= end)
+    both = grouped 11 (row (codes "sender") (named sender_name all_senders) ∷ growth_row) sender_line with_sender end
+        (word_then (codes "sender") sender_name all_senders 11 growth_row (λ s. with_sender s >>= end)
+        (λ s. grouped 12 growth_row growth_line (with_growth s) end
+        (word_then (codes "growth") growth_name all_growths 12 [] (λ g. with_growth s g >>= end)
+        (λ g. no_more_rows 13 (λ raws. f ((s, g), raws))))))
+
     go : (b : Bool)
-        → Heads 10 (if b then row (codes "slack") slack_want ∷ [] else []) (λ raws. (if b then slack_line raws else good (None, raws)) >>= λ o. good (f o))
-    go true =
-        row_then slack_value (row (codes "slack") slack_want) slack_agrees 10 [] (λ o. good (f o)) (λ slack. no_more_rows 11 (λ raws. f (slack, raws)))
-    go false = no_more_rows 10 (λ raws. f (None, raws))
+        → Heads 11 (if b then row (codes "sender") (named sender_name all_senders) ∷ row (codes "growth") (named growth_name all_growths) ∷ [] else [])
+        (λ raws. (if b then both_lines raws else good ((Reno, OneSegment), raws)) >>= λ k. good (f k))
+    go true = both
+    go false = no_more_rows 11 (λ raws. f ((Reno, OneSegment), raws))
 
 half_then : {B : Type 0} (f : LateLines × Raws → B) → Heads 7 (late_rows Three) (λ raws. late_lines Three raws >>= λ x. good (f x))
-half_then {B} f = heads_as 7 (late_rows Three) _ (λ raws. initial_line raws >>= λ i. half i.0 i.1) both split
+half_then {B} f =
+    grouped 7 (late_rows Three) initial_line with_half end
+    (initial_then (row (codes "half") (numeric 0 0) ∷ []) (λ i. with_half i >>= end)
+    (λ i. grouped 8 (row (codes "half") (numeric 0 0) ∷ []) half_line (with_host i) end
+    (number_then (codes "half") 0 0 8 [] (λ h. with_host i h >>= end)
+    (λ n. no_more_rows 9 (λ raws. f (late Three i Full None Reno OneSegment, raws))))))
   where
-    half : Initial → Raws → Result B TextFault
-    half i raws = half_line raws >>= λ h. Ok (f (late Three i Full None, h.1))
-
-    split : Heads 7 (late_rows Three) (λ raws. initial_line raws >>= λ i. half i.0 i.1)
-    split = initial_then (row (codes "half") (numeric 0 0) ∷ []) (λ i. half i.0 i.1)
-        (λ i. number_then (codes "half") 0 0 8 [] (λ h. Ok (f (late Three i Full None, h.1))) (λ n. no_more_rows 9 (λ raws. f (late Three i Full None, raws))))
-
-    both : (raws : Raws) → (late_lines Three raws >>= λ x. good (f x)) ≡ (initial_line raws >>= λ i. half i.0 i.1)
-    both raws = regroup (initial_line raws) (λ i. half_line i.1 >>= λ h. Ok (late Three i.0 Full None, h.1)) (λ x. good (f x)) ∙ behind (initial_line raws)
-      where
-        behind : (m : Result (Initial × Raws) TextFault)
-            → (m >>= λ i. (half_line i.1 >>= λ h. good (late Three i.0 Full None, h.1)) >>= λ x. good (f x)) ≡ (m >>= λ i. half i.0 i.1)
-        behind (Err e) = refl
-        behind (Ok i) = regroup (half_line i.1) (λ h. Ok (late Three i.0 Full None, h.1)) (λ x. good (f x))
+    end : LateLines × Raws → Result B TextFault
+    end x = good (f x)
 
 judged_then : {B : Type 0} (v : Version) (f : LateLines × Raws → B) → Heads 7 (judged_rows v) (λ raws. judged_lines v raws >>= λ x. good (f x))
-judged_then {B} v f = heads_as 7 (judged_rows v) _ (λ raws. initial_line raws >>= λ i. hosts i.0 i.1) both split
+judged_then {B} v f =
+    grouped 7 (judged_rows v) initial_line (with_judged v) end
+    (initial_then from_hosts (λ i. with_judged v i >>= end)
+    (λ i. grouped 8 from_hosts hosts_line (with_hosts v i) end
+    (number_then (codes "hosts") 1 2 8 from_congestion (λ h. with_hosts v i h >>= end)
+    (λ n. grouped 9 from_congestion (congestion_line v) (with_congestion v i n) end
+    (congestion_then v (last_rows v) (λ c. with_congestion v i n c >>= end)
+    (λ j. grouped 10 (last_rows v) (last_line v) (with_last v i n j) end
+    (last_then v (λ o. with_last v i n j o >>= end)
+    (λ o. grouped 11 (control_rows v) (control_lines v) (with_control v i n j o) end
+    (control_then v (λ k. (f (late (hosted v n) i j o k.0.0 k.0.1, k.1))))))))))))
   where
-    last : Initial → ℕ → Judged → Raws → Result B TextFault
-    last i n j raws = last_line v raws >>= λ o. Ok (f (late (hosted v n) i j o.0, o.1))
+    end : LateLines × Raws → Result B TextFault
+    end x = good (f x)
 
-    congestion : Initial → ℕ → Raws → Result B TextFault
-    congestion i n raws = congestion_line raws >>= λ c. last i n c.0 c.1
+    from_congestion : List Row
+    from_congestion = row (codes "congestion") (judged_want v) ∷ last_rows v
 
-    hosts : Initial → Raws → Result B TextFault
-    hosts i raws = hosts_line raws >>= λ h. congestion i h.0 h.1
-
-    split : Heads 7 (judged_rows v) (λ raws. initial_line raws >>= λ i. hosts i.0 i.1)
-    split = initial_then (row (codes "hosts") (numeric 1 2) ∷ row (codes "congestion") (named judged_name all_judged) ∷ last_rows v) (λ i. hosts i.0 i.1)
-        (λ i. number_then (codes "hosts") 1 2 8 (row (codes "congestion") (named judged_name all_judged) ∷ last_rows v) (λ h. congestion i h.0 h.1)
-        (λ n. congestion_then (last_rows v) (λ c. last i n c.0 c.1) (λ j. last_then v (λ o. (f (late (hosted v n) i j o.0, o.1))))))
-
-    after_congestion : (i : Initial) (n : ℕ) (m : Result (Judged × Raws) TextFault)
-        → (m >>= λ c. (last_line v c.1 >>= λ o. good (late (hosted v n) i c.0 o.0, o.1)) >>= λ x. good (f x)) ≡ (m >>= λ c. last i n c.0 c.1)
-    after_congestion i n (Err e) = refl
-    after_congestion i n (Ok c) = regroup (last_line v c.1) (λ o. Ok (late (hosted v n) i c.0 o.0, o.1)) (λ x. good (f x))
-
-    after_hosts : (i : Initial) (m : Result (ℕ × Raws) TextFault)
-        → (m >>= λ h. (congestion_line h.1 >>= λ c. last_line v c.1 >>= λ o. good (late (hosted v h.0) i c.0 o.0, o.1)) >>= λ x. good (f x))
-        ≡ (m >>= λ h. congestion i h.0 h.1)
-    after_hosts i (Err e) = refl
-    after_hosts i (Ok h) =
-        regroup (congestion_line h.1) (λ c. last_line v c.1 >>= λ o. Ok (late (hosted v h.0) i c.0 o.0, o.1)) (λ x. good (f x))
-        ∙ after_congestion i h.0 (congestion_line h.1)
-
-    after_initial : (m : Result (Initial × Raws) TextFault)
-        → (m >>= λ i. (hosts_line i.1 >>= λ h. congestion_line h.1 >>= λ c. last_line v c.1 >>= λ o.
-        good (late (hosted v h.0) i.0 c.0 o.0, o.1)) >>= λ x. good (f x))
-        ≡ (m >>= λ i. hosts i.0 i.1)
-    after_initial (Err e) = refl
-    after_initial (Ok i) =
-        regroup (hosts_line i.1) (λ h. congestion_line h.1 >>= λ c. last_line v c.1 >>= λ o. Ok (late (hosted v h.0) i.0 c.0 o.0, o.1)) (λ x. good (f x))
-        ∙ after_hosts i.0 (hosts_line i.1)
-
-    both : (raws : Raws) → (judged_lines v raws >>= λ x. good (f x)) ≡ (initial_line raws >>= λ i. hosts i.0 i.1)
-    both raws =
-        regroup (initial_line raws)
-        (λ i. hosts_line i.1 >>= λ h. congestion_line h.1 >>= λ c. last_line v c.1 >>= λ o. Ok (late (hosted v h.0) i.0 c.0 o.0, o.1)) (λ x. good (f x))
-        ∙ after_initial (initial_line raws)
+    from_hosts : List Row
+    from_hosts = row (codes "hosts") (numeric 1 2) ∷ from_congestion
 
 late_then : {B : Type 0} (v : Version) (f : LateLines × Raws → B) → Heads 7 (late_rows v) (λ raws. late_lines v raws >>= λ x. good (f x))
-late_then One f = no_more_rows 7 (λ raws. f (late One Rfc5681 Full None, raws))
-late_then Two f = heads_as 7 (late_rows Two) _ (λ raws. initial_line raws >>= λ i. good (f (late Two i.0 Full None, i.1)))
-    (λ raws. regroup (initial_line raws) (λ i. Ok (late Two i.0 Full None, i.1)) (λ x. good (f x)))
-    (initial_then [] (λ i. good (f (late Two i.0 Full None, i.1))) (λ i. no_more_rows 8 (λ raws. f (late Two i Full None, raws))))
+late_then One f = no_more_rows 7 (λ raws. f (late One Rfc5681 Full None Reno OneSegment, raws))
+late_then Two f = grouped 7 (late_rows Two) initial_line (λ i. Ok (late Two i.0 Full None Reno OneSegment, i.1)) (λ x. good (f x))
+    (initial_then [] (λ i. good (f (late Two i.0 Full None Reno OneSegment, i.1)))
+    (λ i. no_more_rows 8 (λ raws. f (late Two i Full None Reno OneSegment, raws))))
 late_then Three f = half_then f
 late_then Four f = judged_then Four f
 late_then FourHalf f = judged_then FourHalf f
 late_then Five f = judged_then Five f
 late_then FiveHalf f = judged_then FiveHalf f
+late_then Six f = judged_then Six f
+late_then SixHalf f = judged_then SixHalf f
 
 abbrev from_extra : Version → List Row
 from_extra v = row (codes "extra") (numeric 0 65535) ∷ late_rows v
@@ -530,17 +567,19 @@ others_then v = number_then (codes "skew") 0 1000000000 2 (from_msl v) (with_ske
 -- ---- the first line
 
 version_err : (text : List ℕ) (e : TextFault) → version_in text ≡ Err e → e ≡ other_text 1 text
-version_err text e = go (is_first text One) (is_first text Two) (is_first text Three) (is_first text Four) (is_first text Five)
+version_err text e = go (is_first text One) (is_first text Two) (is_first text Three) (is_first text Four) (is_first text Five) (is_first text Six)
   where
-    go : (a b c d f : Bool)
-        → (if a then good One else if b then Ok Two else if c then Ok Three else if d then Ok Four else if f then Ok Five else Err (other_text 1 text)) ≡ Err e
+    go : (a b c d f g : Bool)
+        → (if a then good One else if b then Ok Two else if c then Ok Three else if d then Ok Four else if f then Ok Five else if g then Ok Six
+        else Err (other_text 1 text)) ≡ Err e
         → e ≡ other_text 1 text
-    go true b c d f same = absurd cc
-    go false true c d f same = absurd cc
-    go false false true d f same = absurd cc
-    go false false false true f same = absurd cc
-    go false false false false true same = absurd cc
-    go false false false false false same = cc
+    go true b c d f g same = absurd cc
+    go false true c d f g same = absurd cc
+    go false false true d f g same = absurd cc
+    go false false false true f g same = absurd cc
+    go false false false false true g same = absurd cc
+    go false false false false false true same = absurd cc
+    go false false false false false false same = cc
 
 version_agrees : (text : List ℕ) (e : TextFault) → (version_in text ≡ Err e) ↔ ((IsFirstText text → ⊥) × (e ≡ other_text 1 text))
 version_agrees text e = (λ same. (wrong same, version_err text e same), λ g. back (version_in text) refl g)
@@ -558,7 +597,7 @@ first_faults raw e = text_faults IsFirstText 1 version_in version_agrees raw e
 
 -- ---- the header
 
--- both of version 4 have the same lines, and both of version 5
+-- both of version 4 have the same lines, as have both of version 5 and of version 6
 rows_named : (v : Version) → header_rows v ≡ header_rows (named_as v)
 rows_named One = refl
 rows_named Two = refl
@@ -567,6 +606,8 @@ rows_named Four = refl
 rows_named FourHalf = refl
 rows_named Five = refl
 rows_named FiveHalf = refl
+rows_named Six = refl
+rows_named SixHalf = refl
 
 pub header_faults : (raws : List (List ℕ)) (e : TextFault) → (header_of raws ≡ Err e) ↔ IsHeaderFault raws e
 unfolding header_of first_line

@@ -2,7 +2,7 @@
 use Rattle.std.proofs.Common.{◌≤◌, ◌<◌, ◌^◌, ◌+◌, ℕ, zero, suc, arith}
 use Rattle.std.proofs.Common.{◌≡◌, ◌⊎◌, inl, inr, List, [], ◌∷◌, ◌++◌, Bool, true, false, cond, Result, Ok, Err}
 use Rattle.std.proofs.Common.{Option, None, Some, refl, sym, ap, subst, ◌∙◌, append_assoc, length, get_or}
-use Rattle.std.specs.Prelude.{codes, map, ◌==◌, IfSome, if◌then◌else◌}
+use Rattle.std.specs.Prelude.{codes, map, not, ◌==◌, IfSome, if◌then◌else◌}
 use Rattle.std.specs.Fmt.{decimal}
 use Rattle.std.specs.Int.{IsInRange}
 use Rattle.std.specs.Str.{bytes_eq}
@@ -16,15 +16,20 @@ use Rattle.std.proofs.lemmas.Slice.Eq.{bytes_eq-Decides}
 use Rattle.bstr.specs.Text.{lines_of, without_terminator}
 use Rattle.case_forms.specs.declared.trace.Header.{Header}
 use Rattle.case_forms.specs.declared.version.Version.{Version}
-use Rattle.case_forms.specs.declared.version.Version.TheVariants.{One, Two, Three, Four, FourHalf, Five, FiveHalf}
+use Rattle.case_forms.specs.declared.version.Version.TheVariants.{One, Two, Three, Four, FourHalf, Five, FiveHalf, Six, SixHalf}
 use Rattle.case_forms.specs.declared.version.Initial.{Initial}
 use Rattle.case_forms.specs.declared.version.Initial.TheVariants.{Rfc5681, Rfc6928}
 use Rattle.case_forms.specs.declared.version.Judged.{Judged}
 use Rattle.case_forms.specs.declared.version.Judged.TheVariants.{Full, Recovery, NoControl}
-use Rattle.case_forms.specs.Versions.{says_congestion, says_slack, named_as}
+use Rattle.case_forms.specs.declared.version.Growth.{Growth}
+use Rattle.case_forms.specs.declared.version.Growth.TheVariants.{OneSegment, TwoSegments, Any}
+use Rattle.case_forms.specs.declared.version.Sender.{Sender}
+use Rattle.case_forms.specs.declared.version.Sender.TheVariants.{Reno, Cubic}
+use Rattle.case_forms.specs.Versions.{says_congestion, says_sender, says_slack, named_as}
 use Rattle.line_fields.specs.Choice.{kind_value, kind_field}
-use Rattle.line_fields.specs.Congestion.{judged_name, all_judged}
+use Rattle.line_fields.specs.Congestion.{judged_name, all_judged, may_judge, judged_of, judged_value, judged_field}
 use Rattle.line_fields.specs.Hosts.{hosted}
+use Rattle.line_fields.specs.Sender.{sender_name, all_senders, growth_name, all_growths}
 use Rattle.line_fields.specs.Slack.{begins_digit, slack_value, slack_field}
 use Rattle.line_fields.specs.declared.fault.FaultKind.TheVariants as kinds
 use Rattle.line_fields.specs.declared.fault.TextFault.{TextFault}
@@ -43,11 +48,13 @@ use Rattle.line_fields.proofs.LineRests.{fields_taken, fields_again, is_raw, tex
 use Rattle.trace_reader.specs.declared.late_lines.LateLines.{LateLines}
 use Rattle.case_lines.specs.FirstLine.{first_words, version_named}
 use Rattle.trace_reader.specs.Headers.{initial_number, initial_words, half_words, hosts_words, congestion_words}
-use Rattle.trace_reader.specs.Headers.{slack_text, slack_words, judged_words, late_words, header_words, IsHeader, AreLines}
+use Rattle.trace_reader.specs.Headers.{slack_text, slack_words, sender_words, growth_words, judged_words, late_words, header_words}
+use Rattle.trace_reader.specs.Headers.{IsHeader, AreLines}
 use Rattle.trace_reader.specs.Headers.{header_fault, some_left, named_rest, alone, value_line, next_value}
 use Rattle.trace_reader.specs.Headers.{version_in, first_version, first_line, initial_of, initial_value, initial_field, initial_line}
 use Rattle.trace_reader.specs.Headers.{half_line, hosts_line, congestion_line, slack_line, last_line}
-use Rattle.trace_reader.specs.Headers.{late, judged_lines, late_lines, header_with, header_of}
+use Rattle.trace_reader.specs.Headers.{sender_line, growth_line, both_lines, control_lines}
+use Rattle.trace_reader.specs.Headers.{late, late_of, judged_lines, late_lines, header_with, header_of}
 
 abbrev pub Raws : Type 0
 Raws = List (List ℕ)
@@ -276,17 +283,34 @@ initial_again i raw rest line =
 
 -- ---- how much of congestion control is judged
 
--- the text is the word for it
-abbrev IsJudged : Judged → List ℕ → Type 0
-IsJudged j text = text ≡ judged_name j
+-- the text is the word for it, and a header of this version may have it
+abbrev IsJudged : Version → Judged → List ℕ → Type 0
+IsJudged v j text = (text ≡ judged_name j) × (may_judge v j ≡ true)
 
 judged_known : AreNamed judged_name all_judged
 judged_known Full = refl
 judged_known Recovery = refl
 judged_known NoControl = refl
 
-reads_judged : IsReader (kind_field judged_name all_judged) (λ j ws. (t : List ℕ) × IsJudged j t × (ws ≡ t ∷ []))
-reads_judged = reads_field (kind_value judged_name all_judged) IsJudged (is_kind_value judged_name all_judged judged_known)
+guard_judged : (may : Bool) (j k : Judged) (fault : TextFault) → cond may (Ok j) (Err fault) ≡ Ok k → (may ≡ true) × (j ≡ k)
+guard_judged true j k fault e = (refl, ok_is j k e)
+guard_judged false j k fault e = absurd cc
+
+is_judged : (v : Version) → IsValue (judged_value v) (IsJudged v)
+is_judged v = record {
+  takes = λ w j e.
+      let b = bind_ok (kind_value judged_name all_judged w) (judged_of v w) j e in
+      let own = (is_kind_value judged_name all_judged judged_known).takes w b.0 b.1 in
+      let g = guard_judged (may_judge v b.0) b.0 j (fault_at kinds.Field w) b.2 in
+      subst (λ (k : Judged). IsJudged v k w.text) g.1 (own, g.0);
+  again = λ w j x.
+      let may = x.1 in
+      ap (λ (r : Result Judged TextFault). r >>= judged_of v w) ((is_kind_value judged_name all_judged judged_known).again w j x.0) ∙ rw may refl;
+}
+
+reads_judged : (v : Version) → IsReader (judged_field v) (λ j ws. (t : List ℕ) × IsJudged v j t × (ws ≡ t ∷ []))
+unfolding judged_field
+reads_judged v = reads_field (judged_value v) (IsJudged v) (is_judged v)
 
 judged_clean : (j : Judged) → IsClean (judged_name j)
 judged_clean Full = clean_by (codes "full") refl
@@ -294,25 +318,28 @@ judged_clean Recovery = clean_by (codes "recovery") refl
 judged_clean NoControl = clean_by (codes "none") refl
 
 -- what was read of the line that says it
-record IsNamedJudged (raws : Raws) (x : Judged × Raws) : Type 0 where
+record IsNamedJudged (v : Version) (raws : Raws) (x : Judged × Raws) : Type 0 where
   raw : List ℕ
   first : raws ≡ raw ∷ x.1
   line : IsLine 9 (joined (congestion_words x.0)) raw
+  may : may_judge v x.0 ≡ true
 
-congestion_takes : (raws : Raws) (x : Judged × Raws) → congestion_line raws ≡ Ok x → IsNamedJudged raws x
-congestion_takes raws x e =
-    let n = next_takes 9 (codes "congestion") (kind_field judged_name all_judged) IsJudged reads_judged raws x e in
-    let v = n.valued in
+congestion_takes : (v : Version) (raws : Raws) (x : Judged × Raws) → congestion_line v raws ≡ Ok x → IsNamedJudged v raws x
+congestion_takes v raws x e =
+    let n = next_takes 9 (codes "congestion") (judged_field v) (IsJudged v) (reads_judged v) raws x e in
+    let own = n.valued in
     record {
       raw = n.raw;
       first = n.first;
-      line = subst (λ (t : List ℕ). IsLine 9 (joined (codes "congestion" ∷ t ∷ [])) n.raw) v.value v.line;
+      line = subst (λ (t : List ℕ). IsLine 9 (joined (codes "congestion" ∷ t ∷ [])) n.raw) own.value.0 own.line;
+      may = own.value.1;
     }
 
-congestion_again : (j : Judged) (raw : List ℕ) (rest : Raws) → IsLine 9 (joined (congestion_words j)) raw → congestion_line (raw ∷ rest) ≡ Ok (j, rest)
-congestion_again j raw rest line =
-    next_again 9 (codes "congestion") (kind_field judged_name all_judged) IsJudged reads_judged raw (judged_name j) rest j
-    (clean_by (codes "congestion") refl) (judged_clean j) line refl
+congestion_again : (v : Version) (j : Judged) (raw : List ℕ) (rest : Raws) → may_judge v j ≡ true → IsLine 9 (joined (congestion_words j)) raw
+    → congestion_line v (raw ∷ rest) ≡ Ok (j, rest)
+congestion_again v j raw rest may line =
+    next_again 9 (codes "congestion") (judged_field v) (IsJudged v) (reads_judged v) raw (judged_name j) rest j
+    (clean_by (codes "congestion") refl) (judged_clean j) line (refl, may)
 
 -- ---- how late a host may be
 
@@ -405,6 +432,110 @@ last_takes false raws x e =
     subst (λ (y : Option ℕ × Raws). IsLast false raws y) (ok_is (None, raws) x e)
     (record { heads = []; front = refl; lines = tt; most = tt; none = λ is. refl })
 
+-- ---- the sender's congestion control
+
+sender_known : AreNamed sender_name all_senders
+sender_known Reno = refl
+sender_known Cubic = refl
+
+growth_known : AreNamed growth_name all_growths
+growth_known OneSegment = refl
+growth_known TwoSegments = refl
+growth_known Any = refl
+
+sender_clean : (s : Sender) → IsClean (sender_name s)
+sender_clean Reno = clean_by (codes "reno") refl
+sender_clean Cubic = clean_by (codes "cubic") refl
+
+growth_clean : (g : Growth) → IsClean (growth_name g)
+growth_clean OneSegment = clean_by (codes "1") refl
+growth_clean TwoSegments = clean_by (codes "2") refl
+growth_clean Any = clean_by (codes "any") refl
+
+-- a line of a name and one of some words
+module _ {K : Type 0} (number : ℕ) (name : List ℕ) (word : K → List ℕ) (kinds : List K) (known : AreNamed word kinds) where
+  reads_word : IsReader (kind_field word kinds) (λ k ws. (t : List ℕ) × (t ≡ word k) × (ws ≡ t ∷ []))
+  reads_word = reads_field (kind_value word kinds) (λ k t. t ≡ word k) (is_kind_value word kinds known)
+
+  record IsWorded (raws : Raws) (x : K × Raws) : Type 0 where
+    raw : List ℕ
+    first : raws ≡ raw ∷ x.1
+    line : IsLine number (joined (name ∷ word x.0 ∷ [])) raw
+
+  word_takes : (raws : Raws) (x : K × Raws) → next_value number name (kind_field word kinds) raws ≡ Ok x → IsWorded raws x
+  word_takes raws x e =
+      let n = next_takes number name (kind_field word kinds) (λ k t. t ≡ word k) reads_word raws x e in
+      let v = n.valued in
+      record {
+        raw = n.raw;
+        first = n.first;
+        line = subst (λ (t : List ℕ). IsLine number (joined (name ∷ t ∷ [])) n.raw) v.value v.line;
+      }
+
+  word_again : (k : K) (raw : List ℕ) (rest : Raws) → IsClean name → IsClean (word k) → IsLine number (joined (name ∷ word k ∷ [])) raw
+      → next_value number name (kind_field word kinds) (raw ∷ rest) ≡ Ok (k, rest)
+  word_again k raw rest clean field line =
+      next_again number name (kind_field word kinds) (λ k t. t ≡ word k) reads_word raw (word k) rest k clean field line refl
+
+-- the fields of both lines, if the version has them
+abbrev control_of : Bool → Sender → Growth → List (List (List ℕ))
+control_of says s g = if says then sender_words s ∷ growth_words g ∷ [] else []
+
+-- what was read of them
+record IsControl (says : Bool) (raws : Raws) (x : (Sender × Growth) × Raws) : Type 0 where
+  heads : Raws
+  front : raws ≡ heads ++ x.1
+  lines : AreLines 11 (control_of says x.0.0 x.0.1) heads
+  no_sender : says ≡ false → x.0.0 ≡ Reno
+  no_growth : says ≡ false → x.0.1 ≡ OneSegment
+
+control_takes : (says : Bool) (raws : Raws) (x : (Sender × Growth) × Raws)
+    → cond says (both_lines raws) (Ok ((Reno, OneSegment), raws)) ≡ Ok x → IsControl says raws x
+unfolding both_lines
+control_takes true raws x e =
+    let a = bind_ok (sender_line raws) (λ s. growth_line s.1 >>= λ g. Ok ((s.0, g.0), g.1)) x e in
+    let b = bind_ok (growth_line a.0.1) (λ g. Ok ((a.0.0, g.0), g.1)) x a.2 in
+    let s = word_takes 11 (codes "sender") sender_name all_senders sender_known raws a.0 a.1 in
+    let g = word_takes 12 (codes "growth") growth_name all_growths growth_known a.0.1 b.0 b.1 in
+    subst (λ (y : (Sender × Growth) × Raws). IsControl true raws y) (ok_is ((a.0.0, b.0.0), b.0.1) x b.2) (record {
+      heads = s.raw ∷ g.raw ∷ [];
+      front = s.first ∙ ap (λ (us : Raws). s.raw ∷ us) g.first;
+      lines = (s.line, (g.line, tt));
+      no_sender = λ is. absurd cc;
+      no_growth = λ is. absurd cc;
+    })
+control_takes false raws x e =
+    subst (λ (y : (Sender × Growth) × Raws). IsControl false raws y) (ok_is ((Reno, OneSegment), raws) x e)
+    (record { heads = []; front = refl; lines = tt; no_sender = λ is. refl; no_growth = λ is. refl })
+
+-- a version with these lines has the line before them, too
+pub slack_too : (v : Version) → says_slack v ≡ false → says_sender v ≡ false
+slack_too One is = refl
+slack_too Two is = refl
+slack_too Three is = refl
+slack_too Four is = refl
+slack_too FourHalf is = refl
+slack_too Five is = refl
+slack_too FiveHalf is = refl
+slack_too Six is = absurd cc
+slack_too SixHalf is = absurd cc
+
+-- the fields of the lines that only versions 5 and 6 have
+abbrev last_of : Bool → Bool → Option ℕ → Sender → Growth → List (List (List ℕ))
+last_of slack sender o s g = if slack then slack_words o ∷ control_of sender s g else []
+
+-- these lines are the line that says how late a host may be, and those behind it
+last_lines : (slack sender : Bool) (o : Option ℕ) (s : Sender) (g : Growth) (heads more : Raws) → (slack ≡ false → sender ≡ false)
+    → AreLines 10 (if slack then slack_words o ∷ [] else []) heads → AreLines 11 (control_of sender s g) more
+    → AreLines 10 (last_of slack sender o s g) (heads ++ more)
+last_lines true sender o s g [] more too h k = absurd h
+last_lines true sender o s g (raw ∷ []) more too h k = (h.0, k)
+last_lines true sender o s g (raw ∷ next ∷ heads) more too h k = absurd h.1
+last_lines false true o s g heads more too h k = let clash = too refl in absurd cc
+last_lines false false o s g [] [] too h k = tt
+last_lines false false o s g [] (raw ∷ more) too h k = absurd k
+last_lines false false o s g (raw ∷ heads) more too h k = absurd h
+
 -- ---- the lines that version 1 doesn't have
 
 -- one host or two
@@ -419,7 +550,14 @@ record IsHosted (v : Version) (n : ℕ) (w : Version) : Type 0 where
   later : w ≡ One → ⊥
   says : says_congestion w ≡ true
   slack : says_slack w ≡ says_slack v
-  words : (i : Initial) (j : Judged) (o : Option ℕ) → late_words w i j o ≡ judged_words v n i j o
+  sender : says_sender w ≡ says_sender v
+  words : (i : Initial) (j : Judged) (o : Option ℕ) (s : Sender) (g : Growth) → late_words (late w i j o s g) ≡ judged_words n (late v i j o s g)
+
+-- both judge the same
+judges_as : (v w : Version) (j : Judged) → says_sender w ≡ says_sender v → may_judge w j ≡ may_judge v j
+judges_as v w Full same = ap not same
+judges_as v w Recovery same = refl
+judges_as v w NoControl same = refl
 
 by_hosts : (v : Version) → IsHosted v 1 (hosted v 1) → IsHosted v 2 (hosted v 2) → (n : ℕ) → 1 ≤ n → n ≤ 2 → IsHosted v n (hosted v n)
 by_hosts v first second n low high = elim (one_or_two n low high) [
@@ -432,17 +570,56 @@ is_hosted One n says low high = absurd cc
 is_hosted Two n says low high = absurd cc
 is_hosted Three n says low high = absurd cc
 is_hosted Four n says low high =
-    by_hosts Four (record { named = refl; later = λ e. cc; says = refl; slack = refl; words = λ i j o. refl })
-    (record { named = refl; later = λ e. cc; says = refl; slack = refl; words = λ i j o. refl }) n low high
+    by_hosts Four (record { named = refl; later = λ e. cc; says = refl; slack = refl; sender = refl; words = λ i j o s g. refl })
+    (record { named = refl; later = λ e. cc; says = refl; slack = refl; sender = refl; words = λ i j o s g. refl }) n low high
 is_hosted FourHalf n says low high =
-    by_hosts FourHalf (record { named = refl; later = λ e. cc; says = refl; slack = refl; words = λ i j o. refl })
-    (record { named = refl; later = λ e. cc; says = refl; slack = refl; words = λ i j o. refl }) n low high
+    by_hosts FourHalf (record { named = refl; later = λ e. cc; says = refl; slack = refl; sender = refl; words = λ i j o s g. refl })
+    (record { named = refl; later = λ e. cc; says = refl; slack = refl; sender = refl; words = λ i j o s g. refl }) n low high
 is_hosted Five n says low high =
-    by_hosts Five (record { named = refl; later = λ e. cc; says = refl; slack = refl; words = λ i j o. refl })
-    (record { named = refl; later = λ e. cc; says = refl; slack = refl; words = λ i j o. refl }) n low high
+    by_hosts Five (record { named = refl; later = λ e. cc; says = refl; slack = refl; sender = refl; words = λ i j o s g. refl })
+    (record { named = refl; later = λ e. cc; says = refl; slack = refl; sender = refl; words = λ i j o s g. refl }) n low high
 is_hosted FiveHalf n says low high =
-    by_hosts FiveHalf (record { named = refl; later = λ e. cc; says = refl; slack = refl; words = λ i j o. refl })
-    (record { named = refl; later = λ e. cc; says = refl; slack = refl; words = λ i j o. refl }) n low high
+    by_hosts FiveHalf (record { named = refl; later = λ e. cc; says = refl; slack = refl; sender = refl; words = λ i j o s g. refl })
+    (record { named = refl; later = λ e. cc; says = refl; slack = refl; sender = refl; words = λ i j o s g. refl }) n low high
+is_hosted Six n says low high =
+    by_hosts Six (record { named = refl; later = λ e. cc; says = refl; slack = refl; sender = refl; words = λ i j o s g. refl })
+    (record { named = refl; later = λ e. cc; says = refl; slack = refl; sender = refl; words = λ i j o s g. refl }) n low high
+is_hosted SixHalf n says low high =
+    by_hosts SixHalf (record { named = refl; later = λ e. cc; says = refl; slack = refl; sender = refl; words = λ i j o s g. refl })
+    (record { named = refl; later = λ e. cc; says = refl; slack = refl; sender = refl; words = λ i j o s g. refl }) n low high
+
+-- what was read of each of these lines, and the lines behind it
+abbrev pub Told : Type 0
+Told = LateLines × Raws
+
+abbrev pub with_host : Initial → ℕ × Raws → Result Told TextFault
+with_host i h = Ok (late Three i Full None Reno OneSegment, h.1)
+
+abbrev pub with_half : Initial × Raws → Result Told TextFault
+with_half i = half_line i.1 >>= with_host i.0
+
+abbrev pub with_growth : Sender → Growth × Raws → Result ((Sender × Growth) × Raws) TextFault
+with_growth s g = Ok ((s, g.0), g.1)
+
+abbrev pub with_sender : Sender × Raws → Result ((Sender × Growth) × Raws) TextFault
+with_sender s = growth_line s.1 >>= with_growth s.0
+
+-- in versions 4 to 6
+module _ (v : Version) where
+  abbrev pub with_control : Initial → ℕ → Judged → Option ℕ → (Sender × Growth) × Raws → Result Told TextFault
+  with_control i n j o k = Ok (late (hosted v n) i j o k.0.0 k.0.1, k.1)
+
+  abbrev pub with_last : Initial → ℕ → Judged → Option ℕ × Raws → Result Told TextFault
+  with_last i n j o = control_lines v o.1 >>= with_control i n j o.0
+
+  abbrev pub with_congestion : Initial → ℕ → Judged × Raws → Result Told TextFault
+  with_congestion i n c = last_line v c.1 >>= with_last i n c.0
+
+  abbrev pub with_hosts : Initial → ℕ × Raws → Result Told TextFault
+  with_hosts i h = congestion_line v h.1 >>= with_congestion i h.0
+
+  abbrev pub with_judged : Initial × Raws → Result Told TextFault
+  with_judged i = hosts_line i.1 >>= with_hosts i.0
 
 -- what was read of them
 record IsLate (v : Version) (raws : Raws) (x : LateLines × Raws) : Type 0 where
@@ -451,77 +628,97 @@ record IsLate (v : Version) (raws : Raws) (x : LateLines × Raws) : Type 0 where
   named : named_as x.0.version ≡ named_as v
   initial : x.0.version ≡ One → x.0.initial ≡ Rfc5681
   congestion : says_congestion x.0.version ≡ false → x.0.congestion ≡ Full
+  judged : may_judge x.0.version x.0.congestion ≡ true
   slack : IfSome x.0.slack (λ n. n ≤ 1000000000000000000)
   no_slack : says_slack x.0.version ≡ false → x.0.slack ≡ None
-  lines : AreLines 7 (late_words x.0.version x.0.initial x.0.congestion x.0.slack) heads
+  no_sender : says_sender x.0.version ≡ false → x.0.sender ≡ Reno
+  no_growth : says_sender x.0.version ≡ false → x.0.growth ≡ OneSegment
+  lines : AreLines 7 (late_words x.0) heads
 
 half_takes : (raws : Raws) (x : LateLines × Raws) → late_lines Three raws ≡ Ok x → IsLate Three raws x
 half_takes raws x e =
-    let a = bind_ok (initial_line raws) (λ i. half_line i.1 >>= λ h. Ok (late Three i.0 Full None, h.1)) x e in
-    let b = bind_ok (half_line a.0.1) (λ h. Ok (late Three a.0.0 Full None, h.1)) x a.2 in
+    let a = bind_ok (initial_line raws) with_half x e in
+    let b = bind_ok (half_line a.0.1) (with_host a.0.0) x a.2 in
     let n = initial_takes raws a.0 a.1 in
     let h = number_takes 8 (codes "half") 0 0 (omega arith) a.0.1 b.0 b.1 in
     let most = h.high in
     let zero : b.0.0 ≡ 0 = omega (arith, most) in
     let half : IsLine 8 (joined half_words) h.raw = subst (λ (k : ℕ). IsLine 8 (joined (codes "half" ∷ decimal k ∷ [])) h.raw) zero h.line in
-    subst (λ (y : LateLines × Raws). IsLate Three raws y) (ok_is (late Three a.0.0 Full None, b.0.1) x b.2) (record {
+    subst (λ (y : LateLines × Raws). IsLate Three raws y) (ok_is (late Three a.0.0 Full None Reno OneSegment, b.0.1) x b.2) (record {
       heads = n.raw ∷ h.raw ∷ [];
       front = n.first ∙ ap (λ (us : Raws). n.raw ∷ us) h.first;
       named = refl;
       initial = λ one. absurd cc;
       congestion = λ says. refl;
+      judged = refl;
       slack = tt;
       no_slack = λ says. refl;
+      no_sender = λ says. refl;
+      no_growth = λ says. refl;
       lines = (n.line, (half, tt));
     })
 
 judged_takes : (v : Version) (raws : Raws) (x : LateLines × Raws) → says_congestion v ≡ true → judged_lines v raws ≡ Ok x → IsLate v raws x
 judged_takes v raws x says e =
-    let a = bind_ok (initial_line raws) (λ i. hosts_line i.1 >>= λ h. congestion_line h.1 >>= λ c. last_line v c.1 >>= λ o.
-    Ok (late (hosted v h.0) i.0 c.0 o.0, o.1)) x e in
-    let b = bind_ok (hosts_line a.0.1) (λ h. congestion_line h.1 >>= λ c. last_line v c.1 >>= λ o. Ok (late (hosted v h.0) a.0.0 c.0 o.0, o.1)) x a.2 in
-    let c = bind_ok (congestion_line b.0.1) (λ c. last_line v c.1 >>= λ o. Ok (late (hosted v b.0.0) a.0.0 c.0 o.0, o.1)) x b.2 in
-    let d = bind_ok (last_line v c.0.1) (λ o. Ok (late (hosted v b.0.0) a.0.0 c.0.0 o.0, o.1)) x c.2 in
+    let a = bind_ok (initial_line raws) (with_judged v) x e in
+    let b = bind_ok (hosts_line a.0.1) (with_hosts v a.0.0) x a.2 in
+    let c = bind_ok (congestion_line v b.0.1) (with_congestion v a.0.0 b.0.0) x b.2 in
+    let d = bind_ok (last_line v c.0.1) (with_last v a.0.0 b.0.0 c.0.0) x c.2 in
+    let f = bind_ok (control_lines v d.0.1) (with_control v a.0.0 b.0.0 c.0.0 d.0.0) x d.2 in
     let n = initial_takes raws a.0 a.1 in
     let h = number_takes 8 (codes "hosts") 1 2 (omega arith) a.0.1 b.0 b.1 in
-    let k = congestion_takes b.0.1 c.0 c.1 in
+    let k = congestion_takes v b.0.1 c.0 c.1 in
     let l = last_takes (says_slack v) c.0.1 d.0 d.1 in
+    let m = control_takes (says_sender v) d.0.1 f.0 f.1 in
     let is = is_hosted v b.0.0 says h.low h.high in
-    subst (λ (y : LateLines × Raws). IsLate v raws y) (ok_is (late (hosted v b.0.0) a.0.0 c.0.0 d.0.0, d.0.1) x d.2) (record {
-      heads = n.raw ∷ h.raw ∷ k.raw ∷ l.heads;
-      front = n.first ∙ ap (λ (us : Raws). n.raw ∷ us) (h.first ∙ ap (λ (us : Raws). h.raw ∷ us) (k.first ∙ ap (λ (us : Raws). k.raw ∷ us) l.front));
+    let made = late (hosted v b.0.0) a.0.0 c.0.0 d.0.0 f.0.0.0 f.0.0.1 in
+    let last : c.0.1 ≡ (l.heads ++ m.heads) ++ f.0.1 =
+    l.front ∙ ap (λ (us : Raws). l.heads ++ us) m.front ∙ sym (append_assoc l.heads m.heads f.0.1) in
+    subst (λ (y : LateLines × Raws). IsLate v raws y) (ok_is (made, f.0.1) x f.2) (record {
+      heads = n.raw ∷ h.raw ∷ k.raw ∷ (l.heads ++ m.heads);
+      front = n.first ∙ ap (λ (us : Raws). n.raw ∷ us) (h.first ∙ ap (λ (us : Raws). h.raw ∷ us) (k.first ∙ ap (λ (us : Raws). k.raw ∷ us) last));
       named = is.named;
       initial = λ one. absurd (is.later one);
       congestion = λ none. let clash : true ≡ false = sym is.says ∙ none in absurd cc;
+      judged = judges_as v (hosted v b.0.0) c.0.0 is.sender ∙ k.may;
       slack = l.most;
       no_slack = λ none. l.none (sym is.slack ∙ none);
-      lines = subst (λ (ws : List (List (List ℕ))). AreLines 7 ws (n.raw ∷ h.raw ∷ k.raw ∷ l.heads)) (sym (is.words a.0.0 c.0.0 d.0.0))
-          (n.line, (h.line, (k.line, l.lines)));
+      no_sender = λ none. m.no_sender (sym is.sender ∙ none);
+      no_growth = λ none. m.no_growth (sym is.sender ∙ none);
+      lines = subst (λ (ws : List (List (List ℕ))). AreLines 7 ws (n.raw ∷ h.raw ∷ k.raw ∷ (l.heads ++ m.heads)))
+          (sym (is.words a.0.0 c.0.0 d.0.0 f.0.0.0 f.0.0.1))
+          (n.line, (h.line, (k.line, last_lines (says_slack v) (says_sender v) d.0.0 f.0.0.0 f.0.0.1 l.heads m.heads (slack_too v) l.lines m.lines)));
     })
 
 late_takes : (v : Version) (raws : Raws) (x : LateLines × Raws) → late_lines v raws ≡ Ok x → IsLate v raws x
 late_takes One raws x e =
-    subst (λ (y : LateLines × Raws). IsLate One raws y) (ok_is (late One Rfc5681 Full None, raws) x e) (record {
+    subst (λ (y : LateLines × Raws). IsLate One raws y) (ok_is (late One Rfc5681 Full None Reno OneSegment, raws) x e) (record {
       heads = [];
       front = refl;
       named = refl;
       initial = λ one. refl;
       congestion = λ says. refl;
+      judged = refl;
       slack = tt;
       no_slack = λ says. refl;
+      no_sender = λ says. refl;
+      no_growth = λ says. refl;
       lines = tt;
     })
 late_takes Two raws x e =
-    let a = bind_ok (initial_line raws) (λ i. Ok (late Two i.0 Full None, i.1)) x e in
+    let a = bind_ok (initial_line raws) (λ i. Ok (late Two i.0 Full None Reno OneSegment, i.1)) x e in
     let n = initial_takes raws a.0 a.1 in
-    subst (λ (y : LateLines × Raws). IsLate Two raws y) (ok_is (late Two a.0.0 Full None, a.0.1) x a.2) (record {
+    subst (λ (y : LateLines × Raws). IsLate Two raws y) (ok_is (late Two a.0.0 Full None Reno OneSegment, a.0.1) x a.2) (record {
       heads = n.raw ∷ [];
       front = n.first;
       named = refl;
       initial = λ one. absurd cc;
       congestion = λ says. refl;
+      judged = refl;
       slack = tt;
       no_slack = λ says. refl;
+      no_sender = λ says. refl;
+      no_growth = λ says. refl;
       lines = (n.line, tt);
     })
 late_takes Three raws x e = half_takes raws x e
@@ -529,6 +726,8 @@ late_takes Four raws x e = judged_takes Four raws x refl e
 late_takes FourHalf raws x e = judged_takes FourHalf raws x refl e
 late_takes Five raws x e = judged_takes Five raws x refl e
 late_takes FiveHalf raws x e = judged_takes FiveHalf raws x refl e
+late_takes Six raws x e = judged_takes Six raws x refl e
+late_takes SixHalf raws x e = judged_takes SixHalf raws x refl e
 
 -- ---- the first line
 
@@ -545,8 +744,10 @@ first_clean Four = (clean_by (codes "trace") refl, (clean_by (codes "4") refl, t
 first_clean FourHalf = (clean_by (codes "trace") refl, (clean_by (codes "4") refl, tt))
 first_clean Five = (clean_by (codes "trace") refl, (clean_by (codes "5") refl, tt))
 first_clean FiveHalf = (clean_by (codes "trace") refl, (clean_by (codes "5") refl, tt))
+first_clean Six = (clean_by (codes "trace") refl, (clean_by (codes "6") refl, tt))
+first_clean SixHalf = (clean_by (codes "trace") refl, (clean_by (codes "6") refl, tt))
 
--- the same fields name both of version 4, and both of version 5
+-- the same fields name both of version 4, as both of version 5 and of version 6
 pub words_named : (v : Version) → first_words (named_as v) ≡ first_words v
 words_named One = refl
 words_named Two = refl
@@ -555,26 +756,32 @@ words_named Four = refl
 words_named FourHalf = refl
 words_named Five = refl
 words_named FiveHalf = refl
+words_named Six = refl
+words_named SixHalf = refl
 
 -- the text is that of the first line
 abbrev pub is_first : List ℕ → Version → Bool
 is_first text v = bytes_eq text (joined (first_words v))
 
-version_by : (text : List ℕ) (fault : TextFault) (v : Version) (a b c d f : Bool)
+version_by : (text : List ℕ) (fault : TextFault) (v : Version) (a b c d f g : Bool)
     → is_first text One ≡ a → is_first text Two ≡ b → is_first text Three ≡ c → is_first text Four ≡ d → is_first text Five ≡ f
-    → cond a (Ok One) (cond b (Ok Two) (cond c (Ok Three) (cond d (Ok Four) (cond f (Ok Five) (Err fault))))) ≡ Ok v → is_first text v ≡ true
-version_by text fault v true b c d f one two three four five e = ap (is_first text) (sym (ok_is One v e)) ∙ one
-version_by text fault v false true c d f one two three four five e = ap (is_first text) (sym (ok_is Two v e)) ∙ two
-version_by text fault v false false true d f one two three four five e = ap (is_first text) (sym (ok_is Three v e)) ∙ three
-version_by text fault v false false false true f one two three four five e = ap (is_first text) (sym (ok_is Four v e)) ∙ four
-version_by text fault v false false false false true one two three four five e = ap (is_first text) (sym (ok_is Five v e)) ∙ five
-version_by text fault v false false false false false one two three four five e = absurd cc
+    → is_first text Six ≡ g
+    → cond a (Ok One) (cond b (Ok Two) (cond c (Ok Three) (cond d (Ok Four) (cond f (Ok Five) (cond g (Ok Six) (Err fault)))))) ≡ Ok v
+    → is_first text v ≡ true
+version_by text fault v true b c d f g one two three four five six e = ap (is_first text) (sym (ok_is One v e)) ∙ one
+version_by text fault v false true c d f g one two three four five six e = ap (is_first text) (sym (ok_is Two v e)) ∙ two
+version_by text fault v false false true d f g one two three four five six e = ap (is_first text) (sym (ok_is Three v e)) ∙ three
+version_by text fault v false false false true f g one two three four five six e = ap (is_first text) (sym (ok_is Four v e)) ∙ four
+version_by text fault v false false false false true g one two three four five six e = ap (is_first text) (sym (ok_is Five v e)) ∙ five
+version_by text fault v false false false false false true one two three four five six e = ap (is_first text) (sym (ok_is Six v e)) ∙ six
+version_by text fault v false false false false false false one two three four five six e = absurd cc
 
 pub version_taken : (text : List ℕ) (v : Version) → version_in text ≡ Ok v → text ≡ joined (first_words v)
 version_taken text v e =
     let found =
     version_by text (record { kind = kinds.Header; span = whole_line 1 text }) v
-    (is_first text One) (is_first text Two) (is_first text Three) (is_first text Four) (is_first text Five) refl refl refl refl refl e in
+    (is_first text One) (is_first text Two) (is_first text Three) (is_first text Four) (is_first text Five) (is_first text Six)
+    refl refl refl refl refl refl e in
     (bytes_eq-Decides text (joined (first_words v))).0 found
 
 pub version_given : (v : Version) → version_in (joined (first_words v)) ≡ Ok (named_as v)
@@ -585,6 +792,8 @@ version_given Four = refl
 version_given FourHalf = refl
 version_given Five = refl
 version_given FiveHalf = refl
+version_given Six = refl
+version_given SixHalf = refl
 
 pub version_takes : (raw : List ℕ) (v : Version) → first_version raw ≡ Ok v → IsLine 1 (joined (first_words v)) raw
 unfolding first_version
@@ -609,6 +818,8 @@ named_text Four raw raws text ended = rw (text, ended) refl
 named_text FourHalf raw raws text ended = rw (text, ended) refl
 named_text Five raw raws text ended = rw (text, ended) refl
 named_text FiveHalf raw raws text ended = rw (text, ended) refl
+named_text Six raw raws text ended = rw (text, ended) refl
+named_text SixHalf raw raws text ended = rw (text, ended) refl
 
 named_by : (v : Version) (raw : List ℕ) (raws : Raws) → IsLine 1 (joined (first_words v)) raw → version_named (raw ∷ raws) ≡ named_as v
 named_by v raw raws line =
@@ -715,8 +926,11 @@ header_takes raws x e =
         extra = t.high;
         initial = l.initial;
         congestion = l.congestion;
+        judged = l.judged;
         slack = l.slack;
         no_slack = l.no_slack;
+        no_sender = l.no_sender;
+        no_growth = l.no_growth;
       };
       lines = (subst (λ (ws : List (List ℕ)). IsLine 1 (joined ws) h.raw) words h.line, (s.line, (m.line, (n.line, (i.line, (t.line, l.lines))))));
     })
@@ -737,21 +951,66 @@ no_line : (number : ℕ) (raws : Raws) → AreLines number [] raws → raws ≡ 
 no_line number [] h = refl
 no_line number (raw ∷ raws) h = absurd h
 
-last_again : (says : Bool) (slack : Option ℕ) (heads rest : Raws) → IfSome slack (λ n. n ≤ 1000000000000000000) → (says ≡ false → slack ≡ None)
-    → AreLines 10 (if says then slack_words slack ∷ [] else []) heads
-    → cond says (slack_line (heads ++ rest)) (Ok (None, heads ++ rest)) ≡ Ok (slack, rest)
-last_again true slack heads rest most none lines =
-    let a = has_line 10 (slack_words slack) [] heads lines in
-    let all : heads ≡ a.raw ∷ [] = a.first ∙ ap (λ (us : Raws). a.raw ∷ us) (no_line 11 a.rest a.others) in
-    ap (λ (us : Raws). slack_line (us ++ rest)) all ∙ slack_again slack a.raw rest most a.line
-last_again false slack heads rest most none lines =
-    ap (λ (us : Raws). Ok (None, us ++ rest)) (no_line 10 heads lines) ∙ ap (λ (o : Option ℕ). Ok (o, rest)) (sym (none refl))
+control_again : (says : Bool) (s : Sender) (g : Growth) (heads rest : Raws) → (says ≡ false → s ≡ Reno) → (says ≡ false → g ≡ OneSegment)
+    → AreLines 11 (control_of says s g) heads
+    → cond says (both_lines (heads ++ rest)) (Ok ((Reno, OneSegment), heads ++ rest)) ≡ Ok ((s, g), rest)
+unfolding both_lines
+control_again true s g heads rest no_sender no_growth lines =
+    let a = has_line 11 (sender_words s) (growth_words g ∷ []) heads lines in
+    let b = has_line 12 (growth_words g) [] a.rest a.others in
+    let all : heads ≡ a.raw ∷ b.raw ∷ [] = a.first ∙ ap (λ (us : Raws). a.raw ∷ us) (b.first ∙ ap (λ (us : Raws). b.raw ∷ us) (no_line 13 b.rest b.others)) in
+    let sender =
+    word_again 11 (codes "sender") sender_name all_senders sender_known s a.raw (b.raw ∷ rest)
+    (clean_by (codes "sender") refl) (sender_clean s) a.line in
+    let growth =
+    word_again 12 (codes "growth") growth_name all_growths growth_known g b.raw rest
+    (clean_by (codes "growth") refl) (growth_clean g) b.line in
+    ap (λ (us : Raws). sender_line (us ++ rest) >>= with_sender) all ∙ rw (sender, growth) refl
+control_again false s g heads rest no_sender no_growth lines =
+    ap (λ (us : Raws). Ok ((Reno, OneSegment), us ++ rest)) (no_line 11 heads lines)
+    ∙ ap (λ (k : Sender). Ok ((k, OneSegment), rest)) (sym (no_sender refl))
+    ∙ ap (λ (k : Growth). Ok ((s, k), rest)) (sym (no_growth refl))
 
-judged_again : (v : Version) (n : ℕ) (i : Initial) (j : Judged) (slack : Option ℕ) (heads rest : Raws) → 1 ≤ n → n ≤ 2
-    → IfSome slack (λ n. n ≤ 1000000000000000000) → (says_slack v ≡ false → slack ≡ None) → AreLines 7 (judged_words v n i j slack) heads
-    → judged_lines v (heads ++ rest) ≡ Ok (late (hosted v n) i j slack, rest)
-judged_again v n i j slack heads rest low high most none lines =
-    let others = if says_slack v then slack_words slack ∷ [] else [] in
+-- the line that says how late a host may be is read, and these lines are left
+record IsLastRead (slack sender : Bool) (o : Option ℕ) (s : Sender) (g : Growth) (heads rest : Raws) : Type 0 where
+  left : Raws
+  read : cond slack (slack_line (heads ++ rest)) (Ok (None, heads ++ rest)) ≡ Ok (o, left ++ rest)
+  lines : AreLines 11 (control_of sender s g) left
+
+last_again : (slack sender : Bool) (o : Option ℕ) (s : Sender) (g : Growth) (heads rest : Raws) → IfSome o (λ n. n ≤ 1000000000000000000)
+    → (slack ≡ false → o ≡ None) → (slack ≡ false → sender ≡ false) → AreLines 10 (last_of slack sender o s g) heads
+    → IsLastRead slack sender o s g heads rest
+last_again true sender o s g heads rest most none too lines =
+    let a = has_line 10 (slack_words o) (control_of sender s g) heads lines in
+    record {
+      left = a.rest;
+      read = ap (λ (us : Raws). slack_line (us ++ rest)) a.first ∙ slack_again o a.raw (a.rest ++ rest) most a.line;
+      lines = a.others;
+    }
+last_again false true o s g heads rest most none too lines = let clash = too refl in absurd cc
+last_again false false o s g heads rest most none too lines =
+    record {
+      left = [];
+      read = ap (λ (us : Raws). Ok (None, us ++ rest)) (no_line 10 heads lines) ∙ ap (λ (k : Option ℕ). Ok (k, rest)) (sym (none refl));
+      lines = tt;
+    }
+
+-- the limits of what these lines say
+record HasLimits (l : LateLines) : Type 0 where
+  initial : l.version ≡ One → l.initial ≡ Rfc5681
+  congestion : says_congestion l.version ≡ false → l.congestion ≡ Full
+  judged : may_judge l.version l.congestion ≡ true
+  slack : IfSome l.slack (λ n. n ≤ 1000000000000000000)
+  no_slack : says_slack l.version ≡ false → l.slack ≡ None
+  no_sender : says_sender l.version ≡ false → l.sender ≡ Reno
+  no_growth : says_sender l.version ≡ false → l.growth ≡ OneSegment
+
+judged_again : (v : Version) (n : ℕ) (i : Initial) (j : Judged) (o : Option ℕ) (s : Sender) (g : Growth) (heads rest : Raws) → 1 ≤ n → n ≤ 2
+    → may_judge v j ≡ true → IfSome o (λ n. n ≤ 1000000000000000000) → (says_slack v ≡ false → o ≡ None)
+    → (says_sender v ≡ false → s ≡ Reno) → (says_sender v ≡ false → g ≡ OneSegment) → AreLines 7 (judged_words n (late v i j o s g)) heads
+    → judged_lines v (heads ++ rest) ≡ Ok (late (hosted v n) i j o s g, rest)
+judged_again v n i j o s g heads rest low high may most none no_sender no_growth lines =
+    let others = last_of (says_slack v) (says_sender v) o s g in
     let a = has_line 7 (initial_words i) (hosts_words n ∷ congestion_words j ∷ others) heads lines in
     let b = has_line 8 (hosts_words n) (congestion_words j ∷ others) a.rest a.others in
     let c = has_line 9 (congestion_words j) others b.rest b.others in
@@ -759,48 +1018,61 @@ judged_again v n i j slack heads rest low high most none lines =
     a.first ∙ ap (λ (us : Raws). a.raw ∷ us) (b.first ∙ ap (λ (us : Raws). b.raw ∷ us) c.first) in
     let first = initial_again i a.raw (b.raw ∷ c.raw ∷ (c.rest ++ rest)) a.line in
     let hosts = number_again 8 (codes "hosts") 1 2 (omega arith) (clean_by (codes "hosts") refl) b.raw (c.raw ∷ (c.rest ++ rest)) n b.line low high in
-    let congestion = congestion_again j c.raw (c.rest ++ rest) c.line in
-    let last = last_again (says_slack v) slack c.rest rest most none c.others in
-    ap (λ (us : Raws). judged_lines v (us ++ rest)) all ∙ rw (first, hosts, congestion, last) refl
+    let congestion = congestion_again v j c.raw (c.rest ++ rest) may c.line in
+    let last = last_again (says_slack v) (says_sender v) o s g c.rest rest most none (slack_too v) c.others in
+    let slack = last.read in
+    let control = control_again (says_sender v) s g last.left rest no_sender no_growth last.lines in
+    ap (λ (us : Raws). judged_lines v (us ++ rest)) all ∙ rw (first, hosts, congestion, slack, control) refl
 
-late_again : (v : Version) (i : Initial) (j : Judged) (slack : Option ℕ) (heads rest : Raws) → (v ≡ One → i ≡ Rfc5681) → (says_congestion v ≡ false → j ≡ Full)
-    → IfSome slack (λ n. n ≤ 1000000000000000000) → (says_slack v ≡ false → slack ≡ None) → AreLines 7 (late_words v i j slack) heads
-    → late_lines (named_as v) (heads ++ rest) ≡ Ok (late v i j slack, rest)
-late_again One i j slack heads rest initial congestion most none lines =
+abbrev told : Told → Result Told TextFault
+told x = Ok x
+
+-- a version without these lines has these values
+plain_again : (v : Version) (i : Initial) (j : Judged) (o : Option ℕ) (s : Sender) (g : Growth) (rest : Raws)
+    → j ≡ Full → o ≡ None → s ≡ Reno → g ≡ OneSegment
+    → told (late v i Full None Reno OneSegment, rest) ≡ Ok (late v i j o s g, rest)
+plain_again v i j o s g rest full none reno one = rw (full, none, reno, one) refl
+
+late_again : (v : Version) (i : Initial) (j : Judged) (o : Option ℕ) (s : Sender) (g : Growth) (heads rest : Raws) → HasLimits (late v i j o s g)
+    → AreLines 7 (late_words (late v i j o s g)) heads → late_lines (named_as v) (heads ++ rest) ≡ Ok (late v i j o s g, rest)
+late_again One i j o s g heads rest limits lines =
     ap (λ (us : Raws). late_lines One (us ++ rest)) (no_line 7 heads lines)
-    ∙ ap (λ (k : Initial). Ok (late One k Full None, rest)) (sym (initial refl))
-    ∙ ap (λ (k : Judged). Ok (late One i k None, rest)) (sym (congestion refl))
-    ∙ ap (λ (o : Option ℕ). Ok (late One i j o, rest)) (sym (none refl))
-late_again Two i j slack heads rest initial congestion most none lines =
+    ∙ ap (λ (k : Initial). Ok (late One k Full None Reno OneSegment, rest)) (sym (limits.initial refl))
+    ∙ plain_again One i j o s g rest (limits.congestion refl) (limits.no_slack refl) (limits.no_sender refl) (limits.no_growth refl)
+late_again Two i j o s g heads rest limits lines =
     let a = has_line 7 (initial_words i) [] heads lines in
     let all : heads ≡ a.raw ∷ [] = a.first ∙ ap (λ (us : Raws). a.raw ∷ us) (no_line 8 a.rest a.others) in
     ap (λ (us : Raws). late_lines Two (us ++ rest)) all
-    ∙ ap (λ (m : Result (Initial × Raws) TextFault). m >>= λ x. Ok (late Two x.0 Full None, x.1)) (initial_again i a.raw rest a.line)
-    ∙ ap (λ (k : Judged). Ok (late Two i k None, rest)) (sym (congestion refl))
-    ∙ ap (λ (o : Option ℕ). Ok (late Two i j o, rest)) (sym (none refl))
-late_again Three i j slack heads rest initial congestion most none lines =
+    ∙ ap (λ (m : Result (Initial × Raws) TextFault). m >>= λ x. Ok (late Two x.0 Full None Reno OneSegment, x.1)) (initial_again i a.raw rest a.line)
+    ∙ plain_again Two i j o s g rest (limits.congestion refl) (limits.no_slack refl) (limits.no_sender refl) (limits.no_growth refl)
+late_again Three i j o s g heads rest limits lines =
     let a = has_line 7 (initial_words i) (half_words ∷ []) heads lines in
     let b = has_line 8 half_words [] a.rest a.others in
     let all : heads ≡ a.raw ∷ b.raw ∷ [] = a.first ∙ ap (λ (us : Raws). a.raw ∷ us) (b.first ∙ ap (λ (us : Raws). b.raw ∷ us) (no_line 9 b.rest b.others)) in
     let first = initial_again i a.raw (b.raw ∷ rest) a.line in
     let half = number_again 8 (codes "half") 0 0 (omega arith) (clean_by (codes "half") refl) b.raw rest 0 b.line (omega arith) (omega arith) in
-    let read : late_lines Three (a.raw ∷ b.raw ∷ rest) ≡ Ok (late Three i Full None, rest) = rw (first, half) refl in
+    let read : late_lines Three (a.raw ∷ b.raw ∷ rest) ≡ Ok (late Three i Full None Reno OneSegment, rest) = rw (first, half) refl in
     ap (λ (us : Raws). late_lines Three (us ++ rest)) all ∙ read
-    ∙ ap (λ (k : Judged). Ok (late Three i k None, rest)) (sym (congestion refl))
-    ∙ ap (λ (o : Option ℕ). Ok (late Three i j o, rest)) (sym (none refl))
-late_again Four i j slack heads rest initial congestion most none lines = judged_again Four 2 i j slack heads rest (omega arith) (omega arith) most none lines
-late_again FourHalf i j slack heads rest initial congestion most none lines =
-    judged_again Four 1 i j slack heads rest (omega arith) (omega arith) most none lines
-late_again Five i j slack heads rest initial congestion most none lines = judged_again Five 2 i j slack heads rest (omega arith) (omega arith) most none lines
-late_again FiveHalf i j slack heads rest initial congestion most none lines =
-    judged_again Five 1 i j slack heads rest (omega arith) (omega arith) most none lines
+    ∙ plain_again Three i j o s g rest (limits.congestion refl) (limits.no_slack refl) (limits.no_sender refl) (limits.no_growth refl)
+late_again Four i j o s g heads rest limits lines =
+    judged_again Four 2 i j o s g heads rest (omega arith) (omega arith) limits.judged limits.slack limits.no_slack limits.no_sender limits.no_growth lines
+late_again FourHalf i j o s g heads rest limits lines =
+    judged_again Four 1 i j o s g heads rest (omega arith) (omega arith) (judges_as FourHalf Four j refl ∙ limits.judged)
+    limits.slack limits.no_slack limits.no_sender limits.no_growth lines
+late_again Five i j o s g heads rest limits lines =
+    judged_again Five 2 i j o s g heads rest (omega arith) (omega arith) limits.judged limits.slack limits.no_slack limits.no_sender limits.no_growth lines
+late_again FiveHalf i j o s g heads rest limits lines =
+    judged_again Five 1 i j o s g heads rest (omega arith) (omega arith) (judges_as FiveHalf Five j refl ∙ limits.judged)
+    limits.slack limits.no_slack limits.no_sender limits.no_growth lines
+late_again Six i j o s g heads rest limits lines =
+    judged_again Six 2 i j o s g heads rest (omega arith) (omega arith) limits.judged limits.slack limits.no_slack limits.no_sender limits.no_growth lines
+late_again SixHalf i j o s g heads rest limits lines =
+    judged_again Six 1 i j o s g heads rest (omega arith) (omega arith) (judges_as SixHalf Six j refl ∙ limits.judged)
+    limits.slack limits.no_slack limits.no_sender limits.no_growth lines
 
 -- the fields of the header's lines from one line on
-abbrev late_of : Header → List (List (List ℕ))
-late_of h = late_words h.version h.initial h.congestion h.slack
-
 abbrev from_extra : Header → List (List (List ℕ))
-from_extra h = (codes "extra" ∷ decimal h.extra ∷ []) ∷ late_of h
+from_extra h = (codes "extra" ∷ decimal h.extra ∷ []) ∷ late_words (late_of h)
 
 abbrev from_minrto : Header → List (List (List ℕ))
 from_minrto h = (codes "minrto" ∷ decimal h.minrto ∷ []) ∷ from_extra h
@@ -822,7 +1094,7 @@ header_again h heads rest limits lines =
     let c = has_line 3 (codes "msl" ∷ decimal h.msl ∷ []) (from_grain h) b.rest b.others in
     let d = has_line 4 (codes "grain" ∷ decimal h.grain ∷ []) (from_minrto h) c.rest c.others in
     let f = has_line 5 (codes "minrto" ∷ decimal h.minrto ∷ []) (from_extra h) d.rest d.others in
-    let g = has_line 6 (codes "extra" ∷ decimal h.extra ∷ []) (late_of h) f.rest f.others in
+    let g = has_line 6 (codes "extra" ∷ decimal h.extra ∷ []) (late_words (late_of h)) f.rest f.others in
     let last = g.rest in
     let all : heads ≡ a.raw ∷ b.raw ∷ c.raw ∷ d.raw ∷ f.raw ∷ g.raw ∷ last =
     a.first ∙ ap (λ (us : Raws). a.raw ∷ us)
@@ -845,34 +1117,54 @@ header_again h heads rest limits lines =
     let extra =
     number_again 6 (codes "extra") 0 65535 (omega arith) (clean_by (codes "extra") refl) g.raw
     (last ++ rest) h.extra g.line (omega arith) limits.extra in
-    let late_read = late_again h.version h.initial h.congestion h.slack last rest limits.initial limits.congestion limits.slack limits.no_slack g.others in
+    let own : HasLimits (late_of h) =
+    record {
+      initial = limits.initial;
+      congestion = limits.congestion;
+      judged = limits.judged;
+      slack = limits.slack;
+      no_slack = limits.no_slack;
+      no_sender = limits.no_sender;
+      no_growth = limits.no_growth;
+    } in
+    let late_read = late_again h.version h.initial h.congestion h.slack h.sender h.growth last rest own g.others in
     ap (λ (us : Raws). first_line (us ++ rest) >>= with_first) all ∙ rw (first, skew, msl, grain, minrto, extra, late_read) refl
 
-last_clean : (says : Bool) (slack : Option ℕ) → IfSome slack (λ n. n ≤ 1000000000000000000)
-    → AllByRecursion (AllByRecursion IsClean) (if says then slack_words slack ∷ [] else [])
-last_clean true slack most = ((clean_by (codes "slack") refl, (slack_clean slack most, tt)), tt)
-last_clean false slack most = tt
+control_clean : (says : Bool) (s : Sender) (g : Growth) → AllByRecursion (AllByRecursion IsClean) (control_of says s g)
+control_clean true s g =
+    ((clean_by (codes "sender") refl, (sender_clean s, tt)), ((clean_by (codes "growth") refl, (growth_clean g, tt)), tt))
+control_clean false s g = tt
 
-judged_words_clean : (v : Version) (n : ℕ) (i : Initial) (j : Judged) (slack : Option ℕ) → n ≤ 2 → IfSome slack (λ n. n ≤ 1000000000000000000)
-    → AllByRecursion (AllByRecursion IsClean) (judged_words v n i j slack)
-judged_words_clean v n i j slack few most = (
-  (clean_by (codes "initial") refl, (initial_clean i, tt)),
+last_clean : (slack sender : Bool) (o : Option ℕ) (s : Sender) (g : Growth) → IfSome o (λ n. n ≤ 1000000000000000000)
+    → AllByRecursion (AllByRecursion IsClean) (last_of slack sender o s g)
+last_clean true sender o s g most = ((clean_by (codes "slack") refl, (slack_clean o most, tt)), control_clean sender s g)
+last_clean false sender o s g most = tt
+
+judged_words_clean : (n : ℕ) (l : LateLines) → n ≤ 2 → IfSome l.slack (λ n. n ≤ 1000000000000000000)
+    → AllByRecursion (AllByRecursion IsClean) (judged_words n l)
+judged_words_clean n l few most = (
+  (clean_by (codes "initial") refl, (initial_clean l.initial, tt)),
   (
     (clean_by (codes "hosts") refl, (IsClean-decimal n (omega arith), tt)),
-    ((clean_by (codes "congestion") refl, (judged_clean j, tt)), last_clean (says_slack v) slack most),
+    (
+      (clean_by (codes "congestion") refl, (judged_clean l.congestion, tt)),
+      last_clean (says_slack l.version) (says_sender l.version) l.slack l.sender l.growth most,
+    ),
   ),
 )
 
-words_clean : (v : Version) (i : Initial) (j : Judged) (slack : Option ℕ) → IfSome slack (λ n. n ≤ 1000000000000000000)
-    → AllByRecursion (AllByRecursion IsClean) (late_words v i j slack)
-words_clean One i j slack most = tt
-words_clean Two i j slack most = ((clean_by (codes "initial") refl, (initial_clean i, tt)), tt)
-words_clean Three i j slack most =
+words_clean : (v : Version) (i : Initial) (j : Judged) (o : Option ℕ) (s : Sender) (g : Growth) → IfSome o (λ n. n ≤ 1000000000000000000)
+    → AllByRecursion (AllByRecursion IsClean) (late_words (late v i j o s g))
+words_clean One i j o s g most = tt
+words_clean Two i j o s g most = ((clean_by (codes "initial") refl, (initial_clean i, tt)), tt)
+words_clean Three i j o s g most =
     ((clean_by (codes "initial") refl, (initial_clean i, tt)), ((clean_by (codes "half") refl, (IsClean-decimal 0 (omega arith), tt)), tt))
-words_clean Four i j slack most = judged_words_clean Four 2 i j slack (omega arith) most
-words_clean FourHalf i j slack most = judged_words_clean FourHalf 1 i j slack (omega arith) most
-words_clean Five i j slack most = judged_words_clean Five 2 i j slack (omega arith) most
-words_clean FiveHalf i j slack most = judged_words_clean FiveHalf 1 i j slack (omega arith) most
+words_clean Four i j o s g most = judged_words_clean 2 (late Four i j o s g) (omega arith) most
+words_clean FourHalf i j o s g most = judged_words_clean 1 (late FourHalf i j o s g) (omega arith) most
+words_clean Five i j o s g most = judged_words_clean 2 (late Five i j o s g) (omega arith) most
+words_clean FiveHalf i j o s g most = judged_words_clean 1 (late FiveHalf i j o s g) (omega arith) most
+words_clean Six i j o s g most = judged_words_clean 2 (late Six i j o s g) (omega arith) most
+words_clean SixHalf i j o s g most = judged_words_clean 1 (late SixHalf i j o s g) (omega arith) most
 
 -- no field of a header holds a space, a CR or a LF
 pub header_clean : (h : Header) → IsHeader h → AllByRecursion (AllByRecursion IsClean) (header_words h)
@@ -887,7 +1179,10 @@ header_clean h limits =
             (clean_by (codes "grain") refl, (IsClean-decimal h.grain (omega arith), tt)),
             (
               (clean_by (codes "minrto") refl, (IsClean-decimal h.minrto (omega arith), tt)),
-              ((clean_by (codes "extra") refl, (IsClean-decimal h.extra (omega arith), tt)), words_clean h.version h.initial h.congestion h.slack limits.slack),
+              (
+                (clean_by (codes "extra") refl, (IsClean-decimal h.extra (omega arith), tt)),
+                words_clean h.version h.initial h.congestion h.slack h.sender h.growth limits.slack,
+              ),
             ),
           ),
         ),
@@ -905,7 +1200,7 @@ lines_raw number (ws ∷ lines) (raw ∷ raws) clean h = (is_raw number ws raw c
 pub header_raw : (h : Header) (heads : List (List ℕ)) → IsHeader h → AreLines 1 (header_words h) heads → AllByRecursion IsRaw heads
 header_raw h heads limits lines = lines_raw 1 (header_words h) heads (header_clean h limits) lines
 
--- a text that begins with a header names its version; of both of version 4, and of version 5, that of two hosts
+-- a text that begins with a header names its version; of versions 4 to 6, that of two hosts
 pub header_named : (h : Header) (heads : List (List ℕ)) (rest : List ℕ) → AreLines 1 (header_words h) heads
     → version_named (lines_of (concat heads ++ rest)) ≡ named_as h.version
 header_named h heads rest lines =

@@ -1,19 +1,12 @@
 -- The header of a text whose lines are read as they are asked for: each line behind those before it.
-use Rattle.std.proofs.Common.{◌≡◌, ℕ, Option, None, Some, Result, Ok, Err}
+use Rattle.std.proofs.Common.{◌≡◌, Option, None, Some, Result, Ok, Err}
 use Rattle.case_forms.specs.declared.trace.Header.{Header}
-use Rattle.case_forms.specs.declared.version.Initial.{Initial}
-use Rattle.case_forms.specs.declared.version.Judged.{Judged}
-use Rattle.case_forms.specs.declared.version.Judged.TheVariants.{Full}
-use Rattle.case_forms.specs.declared.version.Version.{Version}
-use Rattle.case_forms.specs.declared.version.Version.TheVariants.{Two, Three}
 use Rattle.line_fields.specs.declared.fault.TextFault.{TextFault}
 use Rattle.line_fields.specs.declared.fault.SourceFault.{SourceFault}
-use Rattle.line_fields.specs.Hosts.{hosted}
 use Rattle.line_fields.specs.Reading.{◌>>=◌}
 use Rattle.line_fields.specs.Rows.{with_rest, Reads}
 use Rattle.line_fields.proofs.ReadsLemmas.{reads_then, reads_not}
-use Rattle.trace_reader.specs.declared.late_lines.LateLines.{LateLines}
-use Rattle.trace_reader.specs.Headers.{first_line, half_line, hosts_line, congestion_line, last_line, late, header_of}
+use Rattle.trace_reader.specs.Headers.{first_line, header_of}
 use Rattle.trace_reader.proofs.HeaderLaw.{Raws, with_first}
 
 abbrev Known : Type 0
@@ -45,32 +38,3 @@ module _ {A B : Type 0} (value : Raws → Result (A × Raws) TextFault) (next : 
 pub is_header : (a c : Known) (r : Result Header SourceFault) → Heads (both first_line with_first) a c r → Heads header_of a c r
 unfolding header_of
 is_header a c r p = p
-
--- ---- the lines that version 1 doesn't have
-
-abbrev pub Told : Type 0
-Told = LateLines × Raws
-
-abbrev pub with_initial : Initial × Raws → Result Told TextFault
-with_initial i = Ok (late Two i.0 Full None, i.1)
-
--- in version 3
-abbrev pub with_host : Initial → ℕ × Raws → Result Told TextFault
-with_host i h = Ok (late Three i Full None, h.1)
-
-abbrev pub with_half : Initial × Raws → Result Told TextFault
-with_half i = half_line i.1 >>= with_host i.0
-
--- in versions 4 and 5
-module _ (v : Version) where
-  abbrev pub with_last : Initial → ℕ → Judged → Option ℕ × Raws → Result Told TextFault
-  with_last i n j o = Ok (late (hosted v n) i j o.0, o.1)
-
-  abbrev pub with_congestion : Initial → ℕ → Judged × Raws → Result Told TextFault
-  with_congestion i n c = last_line v c.1 >>= with_last i n c.0
-
-  abbrev pub with_hosts : Initial → ℕ × Raws → Result Told TextFault
-  with_hosts i h = congestion_line h.1 >>= with_congestion i h.0
-
-  abbrev pub with_judged : Initial × Raws → Result Told TextFault
-  with_judged i = hosts_line i.1 >>= with_hosts i.0

@@ -7,7 +7,6 @@ use Rattle.segment.specs.declared.fields.Segment.{Segment}
 use Rattle.segment.specs.Layout.{IsSegment}
 use Rattle.segment.proofs.Readings.{reads_by_layout}
 use Rattle.case_forms.specs.declared.calls.Host.{Host}
-use Rattle.case_forms.specs.declared.trace.Event.{Event}
 use Rattle.case_forms.specs.declared.trace.Line.{Line}
 use Rattle.case_forms.specs.declared.version.Version.{Version}
 use Rattle.case_lines.specs.declared.record.KeptEvent.{KeptEvent}

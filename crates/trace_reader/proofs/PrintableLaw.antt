@@ -28,10 +28,15 @@ use Rattle.case_forms.specs.declared.version.Initial.{Initial}
 use Rattle.case_forms.specs.declared.version.Initial.TheVariants.{Rfc5681, Rfc6928}
 use Rattle.case_forms.specs.declared.version.Judged.{Judged}
 use Rattle.case_forms.specs.declared.version.Judged.TheVariants.{Full, Recovery, NoControl}
-use Rattle.case_forms.specs.Versions.{first_line_of, says_slack}
+use Rattle.case_forms.specs.declared.version.Growth.{Growth}
+use Rattle.case_forms.specs.declared.version.Growth.TheVariants.{OneSegment, TwoSegments, Any}
+use Rattle.case_forms.specs.declared.version.Sender.{Sender}
+use Rattle.case_forms.specs.declared.version.Sender.TheVariants.{Reno, Cubic}
+use Rattle.case_forms.specs.Versions.{first_line_of, says_sender, says_slack}
 use Rattle.case_lines.specs.FirstLine.{first_words}
 use Rattle.trace_reader.specs.Headers.{IsHeader, AreLines, header_words, initial_words, initial_number, hosts_words, congestion_words}
-use Rattle.trace_reader.specs.Headers.{slack_words, judged_words, late_words}
+use Rattle.trace_reader.specs.Headers.{slack_words, sender_words, growth_words, late, judged_words, late_words}
+use Rattle.trace_reader.specs.declared.late_lines.LateLines.{LateLines}
 use Rattle.trace_reader.specs.Calls.{IsCall}
 use Rattle.trace_reader.specs.Events.{event_pieces, IsEvent}
 use Rattle.trace_reader.specs.EventLines.{Place, behind, line_pieces, IsEventLine}
@@ -60,6 +65,8 @@ first_printed versions.Four = fed 1 (first_words versions.Four) (omega arith) (o
 first_printed versions.FourHalf = fed 1 (first_words versions.FourHalf) (omega arith) (omega arith)
 first_printed versions.Five = fed 1 (first_words versions.Five) (omega arith) (omega arith)
 first_printed versions.FiveHalf = fed 1 (first_words versions.FiveHalf) (omega arith) (omega arith)
+first_printed versions.Six = fed 1 (first_words versions.Six) (omega arith) (omega arith)
+first_printed versions.SixHalf = fed 1 (first_words versions.SixHalf) (omega arith) (omega arith)
 
 initial_small : (i : Initial) → initial_number i < 2 ^ 64
 initial_small Rfc5681 = omega arith
@@ -80,29 +87,52 @@ slack_printed : (slack : Option ℕ) → IfSome slack (λ n. n ≤ 1000000000000
 slack_printed None most = fed 10 (slack_words None) (omega arith) (omega arith)
 slack_printed (Some n) most = number_fed 10 (codes "slack") n (omega arith) (omega arith) (omega arith) (omega arith)
 
-abbrev last_of : Bool → Option ℕ → List (List (List ℕ))
-last_of says slack = if says then slack_words slack ∷ [] else []
+sender_printed : (s : Sender) → IsLine 11 (joined (sender_words s)) (printed (sender_words s))
+sender_printed Reno = fed 11 (sender_words Reno) (omega arith) (omega arith)
+sender_printed Cubic = fed 11 (sender_words Cubic) (omega arith) (omega arith)
 
-last_printed : (says : Bool) (slack : Option ℕ) → IfSome slack (λ n. n ≤ 1000000000000000000)
-    → AreLines 10 (last_of says slack) (map printed (last_of says slack))
-last_printed true slack most = (slack_printed slack most, tt)
-last_printed false slack most = tt
+growth_printed : (g : Growth) → IsLine 12 (joined (growth_words g)) (printed (growth_words g))
+growth_printed OneSegment = fed 12 (growth_words OneSegment) (omega arith) (omega arith)
+growth_printed TwoSegments = fed 12 (growth_words TwoSegments) (omega arith) (omega arith)
+growth_printed Any = fed 12 (growth_words Any) (omega arith) (omega arith)
 
-judged_printed : (v : Version) (n : ℕ) (i : Initial) (j : Judged) (slack : Option ℕ) → n ≤ 2 → IfSome slack (λ n. n ≤ 1000000000000000000)
-    → AreLines 7 (judged_words v n i j slack) (map printed (judged_words v n i j slack))
-judged_printed v n i j slack few most =
-    (initial_printed i, (hosts_printed n few, (congestion_printed j, last_printed (says_slack v) slack most)))
+abbrev control_of : Bool → Sender → Growth → List (List (List ℕ))
+control_of says s g = if says then sender_words s ∷ growth_words g ∷ [] else []
 
-late_printed : (v : Version) (i : Initial) (j : Judged) (slack : Option ℕ) → IfSome slack (λ n. n ≤ 1000000000000000000)
-    → AreLines 7 (late_words v i j slack) (map printed (late_words v i j slack))
-late_printed versions.One i j slack most = tt
-late_printed versions.Two i j slack most = (initial_printed i, tt)
-late_printed versions.Three i j slack most =
+control_printed : (says : Bool) (s : Sender) (g : Growth) → AreLines 11 (control_of says s g) (map printed (control_of says s g))
+control_printed true s g = (sender_printed s, (growth_printed g, tt))
+control_printed false s g = tt
+
+abbrev last_of : Bool → Bool → Option ℕ → Sender → Growth → List (List (List ℕ))
+last_of slack sender o s g = if slack then slack_words o ∷ control_of sender s g else []
+
+last_printed : (slack sender : Bool) (o : Option ℕ) (s : Sender) (g : Growth) → IfSome o (λ n. n ≤ 1000000000000000000)
+    → AreLines 10 (last_of slack sender o s g) (map printed (last_of slack sender o s g))
+last_printed true sender o s g most = (slack_printed o most, control_printed sender s g)
+last_printed false sender o s g most = tt
+
+judged_printed : (n : ℕ) (l : LateLines) → n ≤ 2 → IfSome l.slack (λ n. n ≤ 1000000000000000000)
+    → AreLines 7 (judged_words n l) (map printed (judged_words n l))
+judged_printed n l few most = (
+  initial_printed l.initial,
+  (
+    hosts_printed n few,
+    (congestion_printed l.congestion, last_printed (says_slack l.version) (says_sender l.version) l.slack l.sender l.growth most),
+  ),
+)
+
+late_printed : (v : Version) (i : Initial) (j : Judged) (o : Option ℕ) (s : Sender) (g : Growth) → IfSome o (λ n. n ≤ 1000000000000000000)
+    → AreLines 7 (late_words (late v i j o s g)) (map printed (late_words (late v i j o s g)))
+late_printed versions.One i j o s g most = tt
+late_printed versions.Two i j o s g most = (initial_printed i, tt)
+late_printed versions.Three i j o s g most =
     (initial_printed i, (number_fed 8 (codes "half") 0 (omega arith) (omega arith) (omega arith) (omega arith), tt))
-late_printed versions.Four i j slack most = judged_printed versions.Four 2 i j slack (omega arith) most
-late_printed versions.FourHalf i j slack most = judged_printed versions.FourHalf 1 i j slack (omega arith) most
-late_printed versions.Five i j slack most = judged_printed versions.Five 2 i j slack (omega arith) most
-late_printed versions.FiveHalf i j slack most = judged_printed versions.FiveHalf 1 i j slack (omega arith) most
+late_printed versions.Four i j o s g most = judged_printed 2 (late versions.Four i j o s g) (omega arith) most
+late_printed versions.FourHalf i j o s g most = judged_printed 1 (late versions.FourHalf i j o s g) (omega arith) most
+late_printed versions.Five i j o s g most = judged_printed 2 (late versions.Five i j o s g) (omega arith) most
+late_printed versions.FiveHalf i j o s g most = judged_printed 1 (late versions.FiveHalf i j o s g) (omega arith) most
+late_printed versions.Six i j o s g most = judged_printed 2 (late versions.Six i j o s g) (omega arith) most
+late_printed versions.SixHalf i j o s g most = judged_printed 1 (late versions.SixHalf i j o s g) (omega arith) most
 
 header_printed : (h : Header) → IsHeader h → AreLines 1 (header_words h) (map printed (header_words h))
 header_printed h limits =
@@ -118,7 +148,7 @@ header_printed h limits =
               number_fed 5 (codes "minrto") h.minrto (omega arith) (omega arith) (omega arith) (omega arith),
               (
                 number_fed 6 (codes "extra") h.extra (omega arith) (omega arith) (omega arith) (omega arith),
-                late_printed h.version h.initial h.congestion h.slack limits.slack,
+                late_printed h.version h.initial h.congestion h.slack h.sender h.growth limits.slack,
               ),
             ),
           ),
@@ -202,6 +232,8 @@ first_small versions.Four = omega arith
 first_small versions.FourHalf = omega arith
 first_small versions.Five = omega arith
 first_small versions.FiveHalf = omega arith
+first_small versions.Six = omega arith
+first_small versions.SixHalf = omega arith
 
 pub is_printable : (t : Trace) (text : List ℕ) → IsTraceText (with_columns t) text → IsPrintableTrace t
 is_printable t text s =
@@ -255,7 +287,7 @@ event_within v (events.CallBegin call) p b = call_within v call p.0 p.1 b
 event_within v (events.CallEnd answer) p b = answer_within answer p b
 event_within v (events.Sent host wire) p b = (p, b)
 event_within v (events.Came host wire) p b = (p, b)
-event_within v (events.Expired host local remote timer) p b = (p.0, p.1, b.0, p.2, b.1)
+event_within v (events.Expired host local remote timer) p b = (p.0, p.1, b.0, p.2, b.1, p.3)
 
 lines_print : (v : Version) (lines : List Line) → AllByRecursion (IsWithinLine v) lines
     → AllByRecursion IsInMemory lines → AllByRecursion (IsPrintableLine v) lines

@@ -10,7 +10,7 @@ use Rattle.line_fields.specs.Word.{Rest}
 use Rattle.line_fields.specs.Reading.{◌>>=◌, number_field}
 use Rattle.line_fields.specs.Hosts.{host_field}
 use Rattle.line_fields.specs.Choice.{kind_field}
-use Rattle.line_fields.specs.Timers.{timer_name, all_timers}
+use Rattle.line_fields.specs.Timers.{timer_name, timers_of}
 use Rattle.line_fields.specs.AnswerFields.{answer_field}
 use Rattle.trace_reader.specs.declared.events.Letter.{Letter}
 use Rattle.trace_reader.specs.declared.events.Letter.TheVariants as letters
@@ -31,7 +31,7 @@ expired_fields v r = do
   host ← host_field v r
   local ← number_field 1 65535 host.1
   remote ← number_field 1 65535 local.1
-  timer ← kind_field timer_name all_timers remote.1
+  timer ← kind_field timer_name (timers_of v) remote.1
   Ok (events.Expired host.0 local.0 remote.0 timer.0, timer.1)
 
 -- what follows the letter

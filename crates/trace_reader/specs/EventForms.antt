@@ -12,7 +12,7 @@ use Rattle.line_fields.specs.Forms.{Want, Form, End, unless_empty, numeric, name
 use Rattle.line_fields.specs.Hosts.{greatest_host}
 use Rattle.line_fields.specs.LineFaults.{IsFaultOf, IsFaultAmong}
 use Rattle.line_fields.specs.Reading.{is_number}
-use Rattle.line_fields.specs.Timers.{timer_name, all_timers}
+use Rattle.line_fields.specs.Timers.{timer_name, timers_of}
 use Rattle.line_fields.specs.declared.fault.FaultKind.{FaultKind}
 use Rattle.line_fields.specs.declared.fault.FaultKind.TheVariants as kinds
 use Rattle.line_fields.specs.declared.fault.TextFault.{TextFault}
@@ -71,7 +71,7 @@ event_form v letters.B = choice call_name all_call_words (call_form v)
 event_form v letters.E = answer_last
 event_form v letters.O = host v (then_form segment_digits End)
 event_form v letters.I = host v (then_form segment_digits End)
-event_form v letters.T = host v (port (port (then_form (named timer_name all_timers) End)))
+event_form v letters.T = host v (port (port (then_form (named timer_name (timers_of v)) End)))
 
 -- an event line after one of that moment
 abbrev pub line_form : Version → ℕ → Form

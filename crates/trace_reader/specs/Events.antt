@@ -6,7 +6,7 @@ use Rattle.case_forms.specs.declared.trace.Event.TheVariants as events
 use Rattle.case_forms.specs.declared.version.Version.{Version}
 use Rattle.line_fields.specs.Hosts.{host_number, IsHost}
 use Rattle.line_fields.specs.Spelling.{Piece, plain, hex, number, AreWritten}
-use Rattle.line_fields.specs.Timers.{timer_name}
+use Rattle.line_fields.specs.Timers.{timer_name, IsTimer}
 use Rattle.line_fields.specs.Answers.{answer_pieces, IsAnswer}
 use Rattle.trace_reader.specs.declared.events.Letter.{Letter}
 use Rattle.trace_reader.specs.declared.events.Letter.TheVariants as letters
@@ -52,7 +52,7 @@ IsEvent v (events.CallEnd answer) = IsAnswer answer
 IsEvent v (events.Sent host wire) = IsHost v host × IsSegment wire.bytes wire.seg
 IsEvent v (events.Came host wire) = IsHost v host × IsSegment wire.bytes wire.seg
 IsEvent v (events.Expired host local remote timer) =
-    IsHost v host × (1 ≤ local) × (local ≤ 65535) × (1 ≤ remote) × (remote ≤ 65535)
+    IsHost v host × (1 ≤ local) × (local ≤ 65535) × (1 ≤ remote) × (remote ≤ 65535) × IsTimer v timer
 
 -- these fields spell the event
 abbrev pub IsSpelledEvent : Version → Event → List (List ℕ) → Type 0

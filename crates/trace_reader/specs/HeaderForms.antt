@@ -1,14 +1,17 @@
 -- The forms of a header's lines, and its first fault.
-use Rattle.std.specs.Prelude.{◌≡◌, ◌⊎◌, ℕ, ◌+◌, ◌||◌, if◌then◌else◌, List, [], ◌∷◌, ◌++◌, length, Some, None, Ok, codes}
+use Rattle.std.specs.Prelude.{◌≡◌, ◌⊎◌, ℕ, ◌+◌, ◌||◌, ◌&&◌, if◌then◌else◌, List, [], ◌∷◌, ◌++◌, length}
+use Rattle.std.specs.Prelude.{Some, None, Ok, codes}
 use Rattle.std.specs.Str.{bytes_eq}
 use Rattle.case_forms.specs.declared.version.Version.{Version}
 use Rattle.case_forms.specs.declared.version.Version.TheVariants.{One, Two, Three, Four, FourHalf, Five, FiveHalf}
-use Rattle.case_forms.specs.Versions.{says_slack}
+use Rattle.case_forms.specs.declared.version.Version.TheVariants.{Six, SixHalf}
+use Rattle.case_forms.specs.Versions.{says_sender, says_slack}
 use Rattle.line_fields.specs.Congestion.{judged_name, all_judged}
 use Rattle.line_fields.specs.Forms.{Want, unless_empty, numeric, named}
 use Rattle.line_fields.specs.LineFaults.{IsWholeFault, IsTextFaultOf, IsNextFault}
 use Rattle.line_fields.specs.Lines.{IsLine, line_rest}
 use Rattle.line_fields.specs.Reading.{fault_at}
+use Rattle.line_fields.specs.Sender.{sender_name, all_senders, growth_name, all_growths}
 use Rattle.line_fields.specs.Slack.{begins_digit}
 use Rattle.line_fields.specs.Spelling.{joined}
 use Rattle.line_fields.specs.Word.{Word, Rest}
@@ -43,16 +46,29 @@ slack_want w =
     else if begins_digit w.text then numeric 0 1000000000000000000 w
     else Some kinds.Field
 
--- the line that version 5 alone has
-abbrev pub last_rows : Version → List Row
-last_rows v = if says_slack v then row (codes "slack") slack_want ∷ [] else []
+-- one of the three words; in version 6, not `full`
+abbrev pub judged_want : Version → Want
+judged_want v w =
+    if says_sender v && bytes_eq w.text (codes "full") then Some kinds.Field
+    else named judged_name all_judged w
 
--- the lines of version 4 and 5 after line 6
+-- the lines of version 6 alone
+abbrev pub control_rows : Version → List Row
+control_rows v =
+    if says_sender v then row (codes "sender") (named sender_name all_senders)
+    ∷ row (codes "growth") (named growth_name all_growths) ∷ []
+    else []
+
+-- the lines that versions 5 and 6 alone have
+abbrev pub last_rows : Version → List Row
+last_rows v = if says_slack v then row (codes "slack") slack_want ∷ control_rows v else []
+
+-- the lines of versions 4 to 6 after line 6
 abbrev pub judged_rows : Version → List Row
 judged_rows v =
     row (codes "initial") initial_want
     ∷ row (codes "hosts") (numeric 1 2)
-    ∷ row (codes "congestion") (named judged_name all_judged)
+    ∷ row (codes "congestion") (judged_want v)
     ∷ last_rows v
 
 -- the lines that version 1 doesn't have
@@ -64,6 +80,8 @@ late_rows Four = judged_rows Four
 late_rows FourHalf = judged_rows FourHalf
 late_rows Five = judged_rows Five
 late_rows FiveHalf = judged_rows FiveHalf
+late_rows Six = judged_rows Six
+late_rows SixHalf = judged_rows SixHalf
 
 -- the lines from line 2 on
 abbrev pub header_rows : Version → List Row

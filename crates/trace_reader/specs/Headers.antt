@@ -1,23 +1,30 @@
--- The header's lines: six; a seventh in version 2, an eighth in version 3, a ninth in version 4, a tenth in version 5.
-use Rattle.std.specs.Prelude.{◌≡◌, ◌≤◌, ℕ, ◌+◌, ◌==◌, false, if◌then◌else◌, List, [], ◌∷◌}
+-- The header's lines: six; a seventh in version 2, an eighth in version 3, a ninth in version 4, a tenth in version 5,
+-- and two more in version 6.
+use Rattle.std.specs.Prelude.{◌≡◌, ◌≤◌, ℕ, ◌+◌, ◌==◌, false, true, if◌then◌else◌, List, [], ◌∷◌}
 use Rattle.std.specs.Prelude.{Option, None, Some, IfSome, Result, Ok, Err, codes}
 use Rattle.std.specs.Fmt.{decimal}
 use Rattle.std.specs.Str.{bytes_eq}
 use Rattle.case_forms.specs.declared.trace.Header.{Header}
 use Rattle.case_forms.specs.declared.version.Version.{Version}
 use Rattle.case_forms.specs.declared.version.Version.TheVariants.{One, Two, Three, Four, FourHalf, Five, FiveHalf}
+use Rattle.case_forms.specs.declared.version.Version.TheVariants.{Six, SixHalf}
 use Rattle.case_forms.specs.declared.version.Initial.{Initial}
 use Rattle.case_forms.specs.declared.version.Initial.TheVariants.{Rfc5681, Rfc6928}
 use Rattle.case_forms.specs.declared.version.Judged.{Judged}
 use Rattle.case_forms.specs.declared.version.Judged.TheVariants.{Full}
-use Rattle.case_forms.specs.Versions.{says_congestion, says_slack}
+use Rattle.case_forms.specs.declared.version.Growth.{Growth}
+use Rattle.case_forms.specs.declared.version.Growth.TheVariants.{OneSegment}
+use Rattle.case_forms.specs.declared.version.Sender.{Sender}
+use Rattle.case_forms.specs.declared.version.Sender.TheVariants.{Reno}
+use Rattle.case_forms.specs.Versions.{says_congestion, says_sender, says_slack}
 use Rattle.line_fields.specs.declared.fault.FaultKind.TheVariants as kinds
 use Rattle.line_fields.specs.declared.fault.TextFault.{TextFault}
 use Rattle.line_fields.specs.Word.{Word, Rest}
 use Rattle.line_fields.specs.Reading.{◌>>=◌, fault_at, next_field, number_value, number_field}
 use Rattle.line_fields.specs.Choice.{kind_field}
-use Rattle.line_fields.specs.Congestion.{judged_name, all_judged}
+use Rattle.line_fields.specs.Congestion.{judged_name, judged_field, may_judge}
 use Rattle.line_fields.specs.Hosts.{hosted}
+use Rattle.line_fields.specs.Sender.{sender_name, all_senders, growth_name, all_growths}
 use Rattle.line_fields.specs.Slack.{slack_field}
 use Rattle.line_fields.specs.Lines.{IsLine, whole_line, line_text, line_rest, next_raw}
 use Rattle.line_fields.specs.Spelling.{joined}
@@ -50,27 +57,58 @@ abbrev pub slack_text : Option ℕ → List ℕ
 slack_text None = codes "any"
 slack_text (Some slack) = decimal slack
 
--- the fields of the line that says so, which version 5 has
+-- the fields of the line that says so, which versions 5 and 6 have
 abbrev pub slack_words : Option ℕ → List (List ℕ)
 slack_words slack = codes "slack" ∷ slack_text slack ∷ []
 
-abbrev pub last_words : Version → Option ℕ → List (List (List ℕ))
-last_words v slack = if says_slack v then slack_words slack ∷ [] else []
+-- the fields of the lines that name the sender's congestion control, which version 6 has
+abbrev pub sender_words : Sender → List (List ℕ)
+sender_words sender = codes "sender" ∷ sender_name sender ∷ []
 
--- the fields of the lines of version 4 and 5 after line 6
-abbrev pub judged_words : Version → ℕ → Initial → Judged → Option ℕ → List (List (List ℕ))
-judged_words v hosts initial congestion slack =
-    initial_words initial ∷ hosts_words hosts ∷ congestion_words congestion ∷ last_words v slack
+abbrev pub growth_words : Growth → List (List ℕ)
+growth_words growth = codes "growth" ∷ growth_name growth ∷ []
+
+-- what the lines after line 6 say
+abbrev pub late : Version → Initial → Judged → Option ℕ → Sender → Growth → LateLines
+late version initial congestion slack sender growth = record {
+  version = version;
+  initial = initial;
+  congestion = congestion;
+  slack = slack;
+  sender = sender;
+  growth = growth;
+}
+
+-- what the header says in these lines
+abbrev pub late_of : Header → LateLines
+late_of h = late h.version h.initial h.congestion h.slack h.sender h.growth
+
+-- the fields of the lines of version 6 alone
+abbrev pub control_words : LateLines → List (List (List ℕ))
+control_words l = if says_sender l.version then sender_words l.sender ∷ growth_words l.growth ∷ [] else []
+
+abbrev pub last_words : LateLines → List (List (List ℕ))
+last_words l = if says_slack l.version then slack_words l.slack ∷ control_words l else []
+
+-- the fields of the lines of versions 4 to 6 after line 6
+abbrev pub judged_words : ℕ → LateLines → List (List (List ℕ))
+judged_words hosts l =
+    initial_words l.initial ∷ hosts_words hosts ∷ congestion_words l.congestion ∷ last_words l
 
 -- the fields of the lines that version 1 doesn't have
-abbrev pub late_words : Version → Initial → Judged → Option ℕ → List (List (List ℕ))
-late_words One initial congestion slack = []
-late_words Two initial congestion slack = initial_words initial ∷ []
-late_words Three initial congestion slack = initial_words initial ∷ half_words ∷ []
-late_words Four initial congestion slack = judged_words Four 2 initial congestion slack
-late_words FourHalf initial congestion slack = judged_words FourHalf 1 initial congestion slack
-late_words Five initial congestion slack = judged_words Five 2 initial congestion slack
-late_words FiveHalf initial congestion slack = judged_words FiveHalf 1 initial congestion slack
+abbrev pub late_words : LateLines → List (List (List ℕ))
+late_words l = by l.version
+  where
+    by : Version → List (List (List ℕ))
+    by One = []
+    by Two = initial_words l.initial ∷ []
+    by Three = initial_words l.initial ∷ half_words ∷ []
+    by Four = judged_words 2 l
+    by FourHalf = judged_words 1 l
+    by Five = judged_words 2 l
+    by FiveHalf = judged_words 1 l
+    by Six = judged_words 2 l
+    by SixHalf = judged_words 1 l
 
 -- the fields of the header's lines
 abbrev pub header_words : Header → List (List (List ℕ))
@@ -81,7 +119,7 @@ header_words h =
     ∷ (codes "grain" ∷ decimal h.grain ∷ [])
     ∷ (codes "minrto" ∷ decimal h.minrto ∷ [])
     ∷ (codes "extra" ∷ decimal h.extra ∷ [])
-    ∷ late_words h.version h.initial h.congestion h.slack
+    ∷ late_words (late_of h)
 
 -- the limits of the header
 pub record IsHeader (h : Header) : Type 0 where
@@ -95,9 +133,13 @@ pub record IsHeader (h : Header) : Type 0 where
   pub initial : h.version ≡ One → h.initial ≡ Rfc5681
   -- a header without that line judges all of congestion control
   pub congestion : says_congestion h.version ≡ false → h.congestion ≡ Full
+  pub judged : may_judge h.version h.congestion ≡ true
   pub slack : IfSome h.slack (λ slack. slack ≤ 1000000000000000000)
   -- a header without that line says nothing of lateness
   pub no_slack : says_slack h.version ≡ false → h.slack ≡ None
+  -- a header without these lines names RFC 5681
+  pub no_sender : says_sender h.version ≡ false → h.sender ≡ Reno
+  pub no_growth : says_sender h.version ≡ false → h.growth ≡ OneSegment
 
 -- each line with its bytes, numbered consecutively
 abbrev pub AreLines : ℕ → List (List (List ℕ)) → List (List ℕ) → Type 0
@@ -143,7 +185,7 @@ next_value number name read raws = do
   a ← value_line number name read raw.0
   Ok (a, raw.1)
 
--- the version with this text as its first line, else Header; for versions 4 and 5, that of two hosts
+-- the version with this text as its first line, else Header; for versions 4 to 6, that of two hosts
 abbrev pub version_in : List ℕ → Result Version TextFault
 version_in text =
     if bytes_eq text (joined (first_words One)) then Ok One
@@ -151,6 +193,7 @@ version_in text =
     else if bytes_eq text (joined (first_words Three)) then Ok Three
     else if bytes_eq text (joined (first_words Four)) then Ok Four
     else if bytes_eq text (joined (first_words Five)) then Ok Five
+    else if bytes_eq text (joined (first_words Six)) then Ok Six
     else Err (record { kind = kinds.Header; span = whole_line 1 text })
 
 -- the version of a first line, given with its end
@@ -192,8 +235,8 @@ abbrev pub hosts_line : List (List ℕ) → Result (ℕ × List (List ℕ)) Text
 hosts_line raws = next_value 8 (codes "hosts") (number_field 1 2) raws
 
 -- the next line, which says how much of congestion control is judged
-abbrev pub congestion_line : List (List ℕ) → Result (Judged × List (List ℕ)) TextFault
-congestion_line raws = next_value 9 (codes "congestion") (kind_field judged_name all_judged) raws
+abbrev pub congestion_line : Version → List (List ℕ) → Result (Judged × List (List ℕ)) TextFault
+congestion_line v raws = next_value 9 (codes "congestion") (judged_field v) raws
 
 -- the next line, which says how late a host may be
 abbrev pub slack_line : List (List ℕ) → Result (Option ℕ × List (List ℕ)) TextFault
@@ -203,38 +246,55 @@ slack_line raws = next_value 10 (codes "slack") slack_field raws
 abbrev pub last_line : Version → List (List ℕ) → Result (Option ℕ × List (List ℕ)) TextFault
 last_line v raws = if says_slack v then slack_line raws else Ok (None, raws)
 
--- the content of the late lines
-abbrev pub late : Version → Initial → Judged → Option ℕ → LateLines
-late version initial congestion slack =
-    record { version = version; initial = initial; congestion = congestion; slack = slack }
+-- the next line, which names the sender's congestion control
+abbrev pub sender_line : List (List ℕ) → Result (Sender × List (List ℕ)) TextFault
+sender_line raws = next_value 11 (codes "sender") (kind_field sender_name all_senders) raws
+
+-- the next line, which says what a sender may add in slow start
+abbrev pub growth_line : List (List ℕ) → Result (Growth × List (List ℕ)) TextFault
+growth_line raws = next_value 12 (codes "growth") (kind_field growth_name all_growths) raws
+
+-- these two lines
+unfoldable pub both_lines : List (List ℕ) → Result ((Sender × Growth) × List (List ℕ)) TextFault
+both_lines raws = do
+  sender ← sender_line raws
+  growth ← growth_line sender.1
+  Ok ((sender.0, growth.0), growth.1)
+
+-- the next lines, if the version has them
+abbrev pub control_lines : Version → List (List ℕ) → Result ((Sender × Growth) × List (List ℕ)) TextFault
+control_lines v raws = if says_sender v then both_lines raws else Ok ((Reno, OneSegment), raws)
 
 -- the content of the lines of version 3 after line 6
 abbrev pub half_lines : List (List ℕ) → Result (LateLines × List (List ℕ)) TextFault
 half_lines raws = do
   initial ← initial_line raws
   half ← half_line initial.1
-  Ok (late Three initial.0 Full None, half.1)
+  Ok (late Three initial.0 Full None Reno OneSegment, half.1)
 
--- and that of the lines of version 4 or 5, which say how many hosts the version is for
+-- and that of the lines of versions 4 to 6, which say how many hosts the version is for
 abbrev pub judged_lines : Version → List (List ℕ) → Result (LateLines × List (List ℕ)) TextFault
 judged_lines v raws = do
   initial ← initial_line raws
   hosts ← hosts_line initial.1
-  congestion ← congestion_line hosts.1
+  congestion ← congestion_line v hosts.1
   slack ← last_line v congestion.1
-  Ok (late (hosted v hosts.0) initial.0 congestion.0 slack.0, slack.1)
+  control ← control_lines v slack.1
+  Ok (late (hosted v hosts.0) initial.0 congestion.0 slack.0 control.0.0 control.0.1, control.1)
 
 -- the content of the lines that version 1 doesn't have; for version 1 it is always the same
 abbrev pub late_lines : Version → List (List ℕ) → Result (LateLines × List (List ℕ)) TextFault
-late_lines One raws = Ok (late One Rfc5681 Full None, raws)
+late_lines One raws = Ok (late One Rfc5681 Full None Reno OneSegment, raws)
 late_lines Two raws = do
   initial ← initial_line raws
-  Ok (late Two initial.0 Full None, initial.1)
+  Ok (late Two initial.0 Full None Reno OneSegment, initial.1)
 late_lines Three raws = half_lines raws
 late_lines Four raws = judged_lines Four raws
 late_lines FourHalf raws = judged_lines FourHalf raws
 late_lines Five raws = judged_lines Five raws
 late_lines FiveHalf raws = judged_lines FiveHalf raws
+late_lines Six raws = judged_lines Six raws
+late_lines SixHalf raws = judged_lines SixHalf raws
 
 -- the header with these numbers, and the content of the late lines
 abbrev pub header_with : (skew msl grain minrto extra : ℕ) → LateLines → Header
@@ -248,6 +308,8 @@ header_with skew msl grain minrto extra late = record {
   initial = late.initial;
   congestion = late.congestion;
   slack = late.slack;
+  sender = late.sender;
+  growth = late.growth;
 }
 
 -- the header, and the lines after it

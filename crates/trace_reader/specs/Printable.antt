@@ -14,6 +14,7 @@ use Rattle.case_forms.specs.Limits.{Has16, Has32, HasAnswerBits, HasCallBits, Is
 use Rattle.line_fields.specs.Hosts.{IsHost}
 use Rattle.line_fields.specs.Lines.{whole_line}
 use Rattle.line_fields.specs.Spelling.{IsBytePiece, joined, piece_texts}
+use Rattle.line_fields.specs.Timers.{IsTimer}
 use Rattle.trace_reader.specs.Headers.{IsHeader}
 use Rattle.trace_reader.specs.Events.{event_pieces, IsEvent}
 use Rattle.trace_reader.specs.EventLines.{line_pieces}
@@ -22,8 +23,8 @@ use Rattle.trace_reader.specs.EventLines.{line_pieces}
 abbrev pub HasBytes : Line → Type 0
 HasBytes l = AllByRecursion IsBytePiece (event_pieces l.event)
 
--- the numbers and the event of a line are within the limits of this version (only host 0 in a half case), and its bytes
--- are bytes
+-- the numbers and the event of a line are within the limits of this version (only host 0 in a half case, the timer `pto`
+-- from version 6 on), and its bytes are bytes
 pub record IsPrintableLine (v : Version) (l : Line) : Type 0 where
   pub moment : l.moment ≤ 1000000000000000000
   pub thread : l.thread ≤ 4294967295
@@ -52,7 +53,7 @@ pub record IsInMemory (l : Line) : Type 0 where
   pub event : HasEventBits l.event
   pub bytes : HasBytes l
 
--- the limits of an event that no type ensures: hosts of this version, ports from 1 on, and how many bytes
+-- the limits of an event that no type ensures: hosts and timers of this version, ports from 1 on, and how many bytes
 abbrev pub IsCallOf : Version → Call → Type 0
 IsCallOf v (calls.Listen host port backlog) = IsHost v host
 IsCallOf v (calls.Connect host local remote) = IsHost v host
@@ -63,9 +64,9 @@ IsWithinEvent v (events.CallBegin call) = IsCallOf v call × IsTextCall call
 IsWithinEvent v (events.CallEnd answer) = IsTextAnswer answer
 IsWithinEvent v (events.Sent host wire) = IsHost v host
 IsWithinEvent v (events.Came host wire) = IsHost v host
-IsWithinEvent v (events.Expired host local remote timer) = IsHost v host × (1 ≤ local) × (1 ≤ remote)
+IsWithinEvent v (events.Expired host local remote timer) = IsHost v host × (1 ≤ local) × (1 ≤ remote) × IsTimer v timer
 
--- and of a line, and of a trace: only numbers
+-- and of a line, and of a trace
 pub record IsWithinLine (v : Version) (l : Line) : Type 0 where
   pub moment : l.moment ≤ 1000000000000000000
   pub event : IsWithinEvent v l.event

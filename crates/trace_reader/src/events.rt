@@ -64,7 +64,7 @@ fn expiry(version: Version, fields: &mut Fields) -> Result<Event, TextFault>
     let host = fields.host(version)?;
     let local = fields.port()?;
     let remote = fields.port()?;
-    let timer = timer(fields)?;
+    let timer = timer(version, fields)?;
     Ok(Event::Expired(host, local, remote, timer))
 }
 

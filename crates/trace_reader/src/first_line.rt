@@ -13,7 +13,7 @@ use case_lines::{TextLines, first_text};
 use line_fields::{FaultKind, SourceFault, Span, TextFault, checked_line, is_text};
 use std::io::BufRead;
 
-// The version with this first line; for versions 4 and 5, the one with two hosts. Any other text is Header, at the
+// The version with this first line; for versions 4 to 6, the one with two hosts. Any other text is Header, at the
 // whole line.
 #[tactic(auto, unfolding(crate::specs::Headers::first_version))]
 fn first_version(raw: &[u8]) -> Result<Version, TextFault>
@@ -34,6 +34,9 @@ fn first_version(raw: &[u8]) -> Result<Version, TextFault>
     }
     if is_text(text, first_text(Version::Five)) {
         return Ok(Version::Five);
+    }
+    if is_text(text, first_text(Version::Six)) {
+        return Ok(Version::Six);
     }
     let span = Span {
         line: 1,

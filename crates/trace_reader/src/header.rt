@@ -51,5 +51,7 @@ pub(crate) fn header<A: BufRead>(text: &mut TextLines<A>) -> Result<Header, Sour
         initial: late.initial,
         congestion: late.congestion,
         slack: late.slack,
+        sender: late.sender,
+        growth: late.growth,
     })
 }

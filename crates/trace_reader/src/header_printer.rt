@@ -4,12 +4,16 @@ ghost use Rattle.std.specs.Prelude.{◌≡◌, ◌∷◌, [], ◌++◌, OnOk, ma
 ghost use Rattle.std.specs.List.{concat};
 ghost use Rattle.std.specs.Fmt.{decimal};
 ghost use Rattle.line_fields.specs.Spelling.{printed};
-ghost use Rattle.trace_reader.specs.Headers.{initial_number, judged_words, last_words, late_words};
+ghost use Rattle.trace_reader.specs.Headers.{control_words, growth_words, initial_number, judged_words};
+ghost use Rattle.trace_reader.specs.Headers.{last_words, late_of, late_words, sender_words, slack_words};
 ghost use Rattle.trace_reader.specs.Printed.{header_text};
 
-use case_forms::{Header, Host, Initial, Judged, OutOfMemory, Version};
+use case_forms::{Header, Host, Initial, OutOfMemory, Version};
 use case_lines::first_text;
-use line_fields::{host_number, judged_name, push_end, push_number, push_space, push_word};
+use line_fields::{
+    growth_name, host_number, judged_name, push_end, push_number, push_space, push_word,
+    sender_name,
+};
 
 // Writes a name and a number as a line.
 fn push_number_line(out: &mut Vec<u8>, name: &str, number: u64) -> Result<(), OutOfMemory>
@@ -41,59 +45,69 @@ fn initial_number(initial: Initial) -> u64
     }
 }
 
-// Writes the line that says how late a host may be, if the version has it.
-fn push_slack(out: &mut Vec<u8>, version: Version, slack: Option<u64>) -> Result<(), OutOfMemory>
-    ensures { OnOk result (out.new.items ≡ out.old.items ++ concat (map printed (last_words version slack))) }
+// Writes the line that says how late a host may be.
+fn push_slack(out: &mut Vec<u8>, slack: Option<u64>) -> Result<(), OutOfMemory>
+    ensures { OnOk result (out.new.items ≡ out.old.items ++ printed (slack_words slack)) }
 {
-    if !version.says_slack() {
-        return Ok(());
-    }
     match slack {
         None => push_word_line(out, "slack", "any"),
         Some(slack) => push_number_line(out, "slack", slack),
     }
 }
 
-// Writes the lines of version 4 or 5 after line 6.
-fn push_judged(
-    out: &mut Vec<u8>,
-    version: Version,
-    hosts: u64,
-    initial: Initial,
-    congestion: Judged,
-    slack: Option<u64>,
-) -> Result<(), OutOfMemory>
+// Writes the lines that name the sender's congestion control, if the version has them.
+fn push_control(out: &mut Vec<u8>, header: &Header) -> Result<(), OutOfMemory>
     ensures { OnOk result (out.new.items
-        ≡ out.old.items ++ concat (map printed (judged_words version hosts initial congestion slack))) }
+        ≡ out.old.items ++ concat (map printed (control_words (late_of header.now)))) }
 {
-    push_number_line(out, "initial", initial_number(initial))?;
+    if !header.version.says_sender() {
+        return Ok(());
+    }
+    push_word_line(out, "sender", sender_name(header.sender))?;
+    push_word_line(out, "growth", growth_name(header.growth))?;
+    Ok(())
+}
+
+// Writes the lines that only versions 5 and 6 have.
+fn push_last(out: &mut Vec<u8>, header: &Header) -> Result<(), OutOfMemory>
+    ensures { OnOk result (out.new.items
+        ≡ out.old.items ++ concat (map printed (last_words (late_of header.now)))) }
+{
+    if !header.version.says_slack() {
+        return Ok(());
+    }
+    push_slack(out, header.slack)?;
+    push_control(out, header)?;
+    Ok(())
+}
+
+// Writes the lines of versions 4 to 6 after line 6.
+fn push_judged(out: &mut Vec<u8>, hosts: u64, header: &Header) -> Result<(), OutOfMemory>
+    ensures { OnOk result (out.new.items
+        ≡ out.old.items ++ concat (map printed (judged_words hosts (late_of header.now)))) }
+{
+    push_number_line(out, "initial", initial_number(header.initial))?;
     push_number_line(out, "hosts", hosts)?;
-    push_word_line(out, "congestion", judged_name(congestion))?;
-    push_slack(out, version, slack)?;
+    push_word_line(out, "congestion", judged_name(header.congestion))?;
+    push_last(out, header)?;
     Ok(())
 }
 
 // Writes the lines that version 1 doesn't have: the RFC of the first congestion window; which hosts were recorded; how
-// much of congestion control is judged; and how late a host may be.
+// much of congestion control is judged; how late a host may be; and the sender's congestion control.
 fn push_late(out: &mut Vec<u8>, header: &Header) -> Result<(), OutOfMemory>
-    ensures { OnOk result (out.new.items ≡ out.old.items ++ concat (map printed
-        (late_words header.now.version header.now.initial header.now.congestion header.now.slack))) }
+    ensures { OnOk result (out.new.items
+        ≡ out.old.items ++ concat (map printed (late_words (late_of header.now)))) }
 {
-    let version = header.version;
-    let initial = header.initial;
-    match version {
+    match header.version {
         Version::One => Ok(()),
-        Version::Two => push_number_line(out, "initial", initial_number(initial)),
+        Version::Two => push_number_line(out, "initial", initial_number(header.initial)),
         Version::Three => {
-            push_number_line(out, "initial", initial_number(initial))?;
+            push_number_line(out, "initial", initial_number(header.initial))?;
             push_number_line(out, "half", host_number(Host::Zero))
         }
-        Version::Four | Version::Five => {
-            push_judged(out, version, 2, initial, header.congestion, header.slack)
-        }
-        Version::FourHalf | Version::FiveHalf => {
-            push_judged(out, version, 1, initial, header.congestion, header.slack)
-        }
+        Version::Four | Version::Five | Version::Six => push_judged(out, 2, header),
+        Version::FourHalf | Version::FiveHalf | Version::SixHalf => push_judged(out, 1, header),
     }
 }
 

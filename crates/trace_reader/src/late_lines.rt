@@ -2,8 +2,7 @@
 
 ghost use Rattle.std.specs.Prelude.{◌≡◌, ◌≢◌, Err, codes, IfOk};
 ghost use Rattle.counted.specs.Counting.{one_more};
-ghost use Rattle.line_fields.specs.Choice.{kind_field};
-ghost use Rattle.line_fields.specs.Congestion.{judged_name, all_judged};
+ghost use Rattle.line_fields.specs.Congestion.{judged_field};
 ghost use Rattle.line_fields.specs.Reading.{Gives};
 ghost use Rattle.line_fields.specs.Rows.{with_rest, Reads};
 ghost use Rattle.case_lines.specs.CaseLines.{KeepsWitness};
@@ -13,8 +12,9 @@ ghost use Rattle.trace_reader.specs.Headers.{value_line, initial_field, initial_
 ghost use Rattle.trace_reader.specs.Headers.{congestion_line, slack_line, last_line};
 ghost use Rattle.trace_reader.specs.Headers.{half_lines, judged_lines, late_lines};
 
+use crate::control_lines::control_lines;
 use crate::named_lines::{named_rest, next_number};
-use case_forms::{Initial, Judged, Version};
+use case_forms::{Growth, Initial, Judged, Sender, Version};
 use case_lines::TextLines;
 use line_fields::{FaultKind, Fields, SourceFault, TextFault, hosted, judged, slack};
 use std::io::BufRead;
@@ -41,6 +41,8 @@ pub(crate) struct LateLines {
     pub(crate) initial: Initial,
     pub(crate) congestion: Judged,
     pub(crate) slack: Option<u64>,
+    pub(crate) sender: Sender,
+    pub(crate) growth: Growth,
 }
 
 // The next field, one of the two RFCs by number. Any other number is Number.
@@ -86,12 +88,11 @@ fn next_initial<A: BufRead>(text: &mut TextLines<A>) -> Result<Initial, SourceFa
 
 // How much of congestion control is judged, from a line made of `congestion` and a word.
 #[tactic(auto, unfolding(crate::specs::Headers::value_line))]
-fn named_congestion(raw: &[u8]) -> Result<Judged, TextFault>
-    ensures { Gives (λ word. word) result
-        (value_line 9 (codes "congestion") (kind_field judged_name all_judged) raw.now) }
+fn named_congestion(raw: &[u8], version: Version) -> Result<Judged, TextFault>
+    ensures { Gives (λ word. word) result (value_line 9 (codes "congestion") (judged_field version) raw.now) }
 {
     let (mut fields, fault) = named_rest(CONGESTION_LINE, "congestion", raw)?;
-    let congestion = judged(&mut fields)?;
+    let congestion = judged(&mut fields, version)?;
     if !fields.is_empty() {
         return Err(fault);
     }
@@ -100,8 +101,11 @@ fn named_congestion(raw: &[u8]) -> Result<Judged, TextFault>
 
 // How much of congestion control is judged, from the next line, which is `congestion` and a word.
 #[tactic(auto, unfolding(crate::specs::Headers::next_value))]
-fn next_congestion<A: BufRead>(text: &mut TextLines<A>) -> Result<Judged, SourceFault>
-    ensures value { Reads with_rest congestion_line
+fn next_congestion<A: BufRead>(
+    text: &mut TextLines<A>,
+    version: Version,
+) -> Result<Judged, SourceFault>
+    ensures value { Reads with_rest (congestion_line version)
         (rows_left A.remaining text.old) (rows_left A.remaining text.new) result }
     ensures witness { IfOk result (λ x.
         KeepsWitness (witness_left A.remaining text.old) (witness_left A.remaining text.new)) }
@@ -109,7 +113,7 @@ fn next_congestion<A: BufRead>(text: &mut TextLines<A>) -> Result<Judged, Source
     ensures same { result ≢ Err SourceFault.Read → text_failures text.new ≡ text_failures text.old }
 {
     text.require_line(CONGESTION_LINE)?;
-    let congestion = named_congestion(text.raw())?;
+    let congestion = named_congestion(text.raw(), version)?;
     Ok(congestion)
 }
 
@@ -176,11 +180,13 @@ fn half_lines<A: BufRead>(text: &mut TextLines<A>) -> Result<LateLines, SourceFa
         initial,
         congestion: Judged::Full,
         slack: None,
+        sender: Sender::Reno,
+        growth: Growth::OneSegment,
     })
 }
 
-// The RFC of the first congestion window, how many hosts were recorded, how much of congestion control is judged, and
-// in version 5 how late a host may be.
+// The RFC of the first congestion window, how many hosts were recorded, how much of congestion control is judged, from
+// version 5 on how late a host may be, and in version 6 the sender's congestion control.
 fn judged_lines<A: BufRead>(
     text: &mut TextLines<A>,
     version: Version,
@@ -194,13 +200,16 @@ fn judged_lines<A: BufRead>(
 {
     let initial = next_initial(text)?;
     let hosts = next_number(text, HOSTS_LINE, "hosts", 1, 2)?;
-    let congestion = next_congestion(text)?;
+    let congestion = next_congestion(text, version)?;
     let slack = last_line(text, version)?;
+    let (sender, growth) = control_lines(text, version)?;
     Ok(LateLines {
         version: hosted(version, hosts),
         initial,
         congestion,
         slack,
+        sender,
+        growth,
     })
 }
 
@@ -222,6 +231,8 @@ pub(crate) fn late_lines<A: BufRead>(
             initial: Initial::Rfc5681,
             congestion: Judged::Full,
             slack: None,
+            sender: Sender::Reno,
+            growth: Growth::OneSegment,
         }),
         Version::Two => {
             let initial = next_initial(text)?;
@@ -230,11 +241,16 @@ pub(crate) fn late_lines<A: BufRead>(
                 initial,
                 congestion: Judged::Full,
                 slack: None,
+                sender: Sender::Reno,
+                growth: Growth::OneSegment,
             })
         }
         Version::Three => half_lines(text),
-        Version::Four | Version::FourHalf | Version::Five | Version::FiveHalf => {
-            judged_lines(text, version)
-        }
+        Version::Four
+        | Version::FourHalf
+        | Version::Five
+        | Version::FiveHalf
+        | Version::Six
+        | Version::SixHalf => judged_lines(text, version),
     }
 }

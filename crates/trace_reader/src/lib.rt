@@ -11,11 +11,11 @@
 //! - `TraceReader`: a text whose lines are read on request; `SourceFault`: a fault, or a read that failed
 //! - `print_trace`: the text of a trace
 //!
-//! A text has a header of six lines (seven in version 2, eight in version 3, nine in version 4, ten in version 5),
-//! followed by event lines. `specs/TraceText` defines which text is the text of which trace; read it first.
-//! `specs/Headers`, `specs/EventLines`, `specs/Events` and `specs/Calls` define the forms of the lines; `line_fields`
-//! those of single fields. `case_lines` reads the lines of the text, and decides where the trace of a case ends. This
-//! crate only reads lines; `checker` decides whether a trace can be explained.
+//! A text has a header of six lines (seven in version 2, eight in version 3, nine in version 4, ten in version 5,
+//! twelve in version 6), followed by event lines. `specs/TraceText` defines which text is the text of which trace; read
+//! it first. `specs/Headers`, `specs/EventLines`, `specs/Events` and `specs/Calls` define the forms of the lines;
+//! `line_fields` those of single fields. `case_lines` reads the lines of the text, and decides where the trace of a
+//! case ends. This crate only reads lines; `checker` decides whether a trace can be explained.
 //!
 //! Private modules:
 //!
@@ -23,7 +23,7 @@
 //! - `stream`: the reader of a text whose lines are read on request
 //! - `header`: the header, by its lines
 //! - `first_line`: the first line, read as the version that it names
-//! - `late_lines`: the lines after line 6, which version 1 doesn't have
+//! - `late_lines`: the lines after line 6, which version 1 doesn't have; `control_lines`: those of version 6 alone
 //! - `named_lines`: lines of a header that are a name and a value
 //! - `events`: events, and event lines, each read alone; `kept_events`: an event line that is kept; `plain`: one that
 //!   is written as usual, whose bytes are read into their place
@@ -35,6 +35,7 @@
 #![tactic(auto)]
 
 mod calls;
+mod control_lines;
 mod events;
 mod first_line;
 mod from_bytes;

@@ -1,12 +1,15 @@
 -- What both hosts of a recording begin with.
 use Rattle.std.specs.Prelude.{◌≡◌, None}
+use Rattle.case_forms.specs.declared.version.Growth.TheVariants.{OneSegment}
+use Rattle.case_forms.specs.declared.version.Sender.TheVariants.{Reno}
 use Rattle.case_forms.specs.declared.calls.Host.TheVariants as hosts
 use Rattle.case_forms.specs.declared.trace.Header.{Header}
 use Rattle.case_forms.specs.declared.version.Initial.{Initial}
 use Rattle.case_forms.specs.declared.version.Initial.TheVariants.{Rfc5681, Rfc6928}
 use Rattle.case_forms.specs.declared.version.Judged.TheVariants.{Full}
 use Rattle.case_forms.specs.declared.version.Version.{Version}
-use Rattle.case_forms.specs.declared.version.Version.TheVariants.{One, Two, Three, Four, FourHalf, Five, FiveHalf}
+use Rattle.case_forms.specs.declared.version.Version.TheVariants.{One, Two, Three, Four, FourHalf, Five, FiveHalf, Six}
+use Rattle.case_forms.specs.declared.version.Version.TheVariants.{SixHalf}
 use Rattle.recorder.specs.Views.{BookView}
 
 -- which RFC gives the first congestion window: version 1 always has that of RFC 5681
@@ -18,6 +21,8 @@ initial_of Four = Rfc6928
 initial_of FourHalf = Rfc6928
 initial_of Five = Rfc6928
 initial_of FiveHalf = Rfc6928
+initial_of Six = Rfc6928
+initial_of SixHalf = Rfc6928
 
 -- times in microseconds: no skew, a segment lives at most an hour, timers may be a millisecond early, and RTO is at
 -- least 200 milliseconds
@@ -33,6 +38,8 @@ header_of version =
       initial = initial_of version;
       congestion = Full;
       slack = None;
+      sender = Reno;
+      growth = OneSegment;
     }
 
 -- the books of host 0 and of host 1, under one header

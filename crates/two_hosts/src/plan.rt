@@ -3,7 +3,7 @@
 ghost use Rattle.std.specs.Prelude.{◌≡◌};
 ghost use Rattle.two_hosts.specs.Plans.{header_of};
 
-use case_forms::{Header, Initial, Judged, Version};
+use case_forms::{Growth, Header, Initial, Judged, Sender, Version};
 use recorder::CoreConfig;
 
 /// Host 0's first initial send sequence number, two short of the end of the number space (RFC 9293, 3.4.1).
@@ -56,10 +56,14 @@ pub(crate) fn header_of(version: Version) -> Header
             | Version::Four
             | Version::FourHalf
             | Version::Five
-            | Version::FiveHalf => Initial::Rfc6928,
+            | Version::FiveHalf
+            | Version::Six
+            | Version::SixHalf => Initial::Rfc6928,
         },
         congestion: Judged::Full,
         slack: None,
+        sender: Sender::Reno,
+        growth: Growth::OneSegment,
     }
 }
 

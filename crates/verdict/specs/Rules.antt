@@ -57,6 +57,7 @@ rule_name rules.ResetLate = codes "reset-late"
 rule_name rules.Resent = codes "resent"
 rule_name rules.ResentBeyond = codes "resent-beyond"
 rule_name rules.AckExcess = codes "ack-excess"
+rule_name rules.SampleDue = codes "sample-due"
 
 -- the first broken rule of a list; each rule is paired with whether the step breaks it, lowest first
 abbrev pub first_broken : List (Rule × Bool) → Option Rule

@@ -113,6 +113,8 @@ pub enum Rule {
     ResentBeyond,
     /// There are more acknowledgments than received segments (RFC 5681, 4.2).
     AckExcess,
+    /// A round trip isn't measured, though none was since this data was sent (RFC 6298, 3).
+    SampleDue,
 }
 
 impl Rule {
@@ -174,6 +176,7 @@ impl Rule {
             Rule::Resent => "resent",
             Rule::ResentBeyond => "resent-beyond",
             Rule::AckExcess => "ack-excess",
+            Rule::SampleDue => "sample-due",
         }
     }
 }

@@ -1,7 +1,9 @@
 -- A step of a case: the rules of the model and of duties, and the case after it.
-use Rattle.std.proofs.Common.{◌≡◌, ℕ, suc, Bool, List, [], ◌++◌, Option, None, Some, Result, Ok, Err, refl, sym, ap, subst, ◌∙◌, append-nil, inl, inr}
+use Rattle.std.proofs.Common.{◌≡◌, ℕ, suc, Bool, true, false, List, [], ◌++◌, Option, None, Some, Result, Ok, Err, refl, sym, ap, subst, ◌∙◌, append-nil, inl}
+use Rattle.std.proofs.Common.{inr}
 use Rattle.std.specs.Prelude.{OnOk, IfErr}
 use Rattle.std.specs.Option.{option_map, option_map_or}
+use Rattle.case_forms.specs.Versions.{says_sender}
 use Rattle.case_forms.specs.TakenLines.{event_taken}
 use Rattle.case_forms.specs.declared.calls.Answer.{Answer}
 use Rattle.case_forms.specs.declared.calls.Call.{Call}
@@ -38,7 +40,7 @@ use Rattle.watched.proofs.ForgetLemmas.{observe-forget, view_in-forget}
 -- what may be discarded isn't noted
 pub noted-forget : (h : Header) (moment : ℕ) (w : World tcp_shape) (s : Observation) (d : Duties)
     → noted_by h moment (forgetting.forget w) s d ≡ noted_by h moment w s d
-noted-forget h moment w s d = ap (λ v. on h.slack d (λ slack. duties_after v moment s d)) (view_in-forget w s.touched)
+noted-forget h moment w s d = ap (λ v. on h.slack d (λ slack. duties_after (says_sender h.version) v moment s d)) (view_in-forget w s.touched)
 
 -- what the code notes is what is kept
 kept_is : (h : Header) (w : World tcp_shape) (d : Duties) (steps moment : ℕ) (step : Step tcp_shape)
@@ -125,10 +127,11 @@ unseen_admits (Ok x) p d moment step sees e =
     ∙ (ap (λ (s : Observation). first_broken (judged_rules p.header moment d s)) sees ∙ unseen_rules p.header moment d)
 unseen_admits (Err fault) p d moment step sees e = tt
 
-nothing_noted : (o : Option ℕ) (moment : ℕ) (w : World tcp_shape) (d : Duties)
-    → on o d (λ slack. duties_after (view_in w unseen.touched) moment unseen d) ≡ d
-nothing_noted None moment w d = refl
-nothing_noted (Some slack) moment w d = refl
+nothing_noted : (o : Option ℕ) (strict : Bool) (moment : ℕ) (w : World tcp_shape) (d : Duties)
+    → on o d (λ slack. duties_after strict (view_in w unseen.touched) moment unseen d) ≡ d
+nothing_noted None strict moment w d = refl
+nothing_noted (Some slack) true moment w d = refl
+nothing_noted (Some slack) false moment w d = refl
 
 pub unseen_is : {A : Type 0} (r : Result A StepFault) (p u : Progress) (d : Duties) (moment : ℕ) (step : Step tcp_shape)
     → observe p.header moment p.world step ≡ unseen
@@ -136,7 +139,7 @@ pub unseen_is : {A : Type 0} (r : Result A StepFault) (p u : Progress) (d : Duti
 unseen_is (Err e) p u d moment step sees is = tt
 unseen_is (Ok x) p u d moment step sees is =
     ap (λ (u : Progress). case_of u d) is
-    ∙ ap wrap (sym (ap (λ (s : Observation). noted_by p.header moment now s d) sees ∙ nothing_noted p.header.slack moment now d))
+    ∙ ap wrap (sym (ap (λ (s : Observation). noted_by p.header moment now s d) sees ∙ nothing_noted p.header.slack (says_sender p.header.version) moment now d))
   where
     now : World tcp_shape
     now = network.after (tcp p.header) moment p.world step
@@ -188,7 +191,7 @@ note_is (Err e) n p u d moment asked s is sees said = tt
 note_is (Ok x) n p u d moment None s is sees said =
     said ∙ ap (λ (s : Observation). noted moment s (case_of u d)) sees
     ∙ ap (λ (u : Progress). noted moment unseen (case_of u d)) is
-    ∙ ap wrap (nothing_noted p.header.slack moment p.world d)
+    ∙ ap wrap (nothing_noted p.header.slack (says_sender p.header.version) moment p.world d)
   where
     wrap : Duties → Watched
     wrap d = record { header = p.header; world = record { model = p.world; duties = d }; steps = p.steps }
@@ -232,7 +235,7 @@ plain_is (Err e) p u d moment asked any is = tt
 plain_is (Ok x) p u d moment None any is = ap (λ (u : Progress). case_of u d) is
 plain_is (Ok x) p u d moment (Some step) any is =
     ap (λ (u : Progress). case_of u d) is
-    ∙ ap wrap (sym (ap (λ o. on o d (λ slack. duties_after (view_in now (observe p.header moment p.world step).touched) moment
+    ∙ ap wrap (sym (ap (λ o. on o d (λ slack. duties_after (says_sender p.header.version) (view_in now (observe p.header moment p.world step).touched) moment
     (observe p.header moment p.world step) d)) any))
   where
     now : World tcp_shape

@@ -1,5 +1,5 @@
 -- Duties read nothing that may be discarded.
-use Rattle.std.proofs.Common.{◌≡◌, ℕ, suc, Bool, List, [], ◌∷◌, Option, None, Some, map, refl, ap, ◌∙◌}
+use Rattle.std.proofs.Common.{◌≡◌, ℕ, suc, Bool, List, [], ◌∷◌, Option, None, Some, map, refl, ap, ◌∙◌, arith}
 use Rattle.std.specs.Prelude.{if◌then◌else◌, false, is_some, slice_get, nat_eq}
 use Rattle.std.specs.Map.{lookup}
 use Rattle.std.specs.Option.{option_map, option_map_or}
@@ -9,6 +9,7 @@ use Rattle.case_forms.specs.States.{is_closed}
 use Rattle.case_forms.specs.declared.calls.Answer.{Answer}
 use Rattle.case_forms.specs.declared.calls.Answer.TheVariants as answers
 use Rattle.case_forms.specs.declared.calls.Call.{Call}
+use Rattle.case_forms.specs.declared.version.Version.{Version}
 use Rattle.case_forms.specs.declared.calls.Call.TheVariants as calls
 use Rattle.case_forms.specs.declared.calls.Host.{Host}
 use Rattle.case_forms.specs.declared.calls.Host.TheVariants.{Zero, One}
@@ -26,23 +27,27 @@ use Rattle.spec_tcp.specs.declared.endpoint.Emission.{Emission}
 use Rattle.spec_tcp.specs.declared.endpoint.Endpoint.{Endpoint}
 use Rattle.spec_tcp.specs.declared.endpoint.SocketTarget.{SocketTarget}
 use Rattle.spec_tcp.specs.declared.endpoint.SocketTarget.TheVariants.{ListenerAt, EndpointAt}
+use Rattle.spec_tcp.specs.Heard.{as_read}
 use Rattle.spec_tcp.specs.HostTcp.{HostTcp, place_of, socket_target, queue_of}
 use Rattle.spec_tcp.specs.Machine.{tcp, tcp_shape, aim}
 use Rattle.spec_tcp.specs.Forgetting.{forget_endpoint, forget_body, forget_host, forget}
-use Rattle.spec_tcp_laws.proofs.ForgetReads.{rcv_nxt-forget, snd_max-forget, end_of-forget}
+use Rattle.spec_tcp_laws.proofs.ForgetReads.{rcv_nxt-forget, snd_max-forget, end_of-forget, again-forget}
 use Rattle.spec_tcp_laws.proofs.ForgetBodies.{place-forget}
 use Rattle.spec_tcp_laws.proofs.ForgetActs.{forget_taker, taker-forget, read-forget}
+use Rattle.spec_tcp_laws.proofs.ForgetRules.{sample-forget}
 use Rattle.spec_tcp_laws.proofs.ForgetWorlds.{step_rules-forget}
 use Rattle.spec_duties.specs.Views.{view_of, unborn}
 use Rattle.spec_duties.specs.Cases as cases
 use Rattle.spec_duties.specs.Cases.{Known, late_at_end}
-use Rattle.spec_duties.specs.End.{either, first_waiting, lates_at, lates_from, lates_of_host, lates_of_all, line_of}
-use Rattle.spec_duties.specs.Owed.{late_rules, lates_of, none_late}
-use Rattle.spec_duties.specs.Watching.{Duties, listener_closed, owed_by}
+use Rattle.spec_duties.specs.End.{any_unsent, either, first_waiting, is_brought_late, is_send_late, lates_at, lates_from, lates_of_host, lates_of_all, line_of}
+use Rattle.spec_duties.specs.Owed.{late_rules, none_late}
+use Rattle.spec_duties.specs.Strict.{with_brought}
+use Rattle.spec_duties.specs.Watching.{Duties, judged_lates}
 use Rattle.spec_duties.specs.declared.events.Event.{Event}
 use Rattle.spec_duties.specs.declared.owed.Lates.{Lates}
 use Rattle.spec_duties.specs.declared.views.View.{View}
-use Rattle.spec_duties.specs.Dropped.{bare, droppable_by, discards_at, taking_breaks, answering_breaks}
+use Rattle.spec_duties.specs.Dropped.{bare, droppable_by, discards_at, is_old, taking_breaks, answering_breaks}
+use Rattle.spec_duties.specs.Sampling.{may_measure, sampling_at}
 use Rattle.spec_duties.specs.Observations.{observe, observe_host_step, at_place, at_ports, at_next, at_sender, at_target, at_drop, unseen}
 use Rattle.spec_duties.specs.Observations.{processing_of, sending_of, accepting, observe_accept, observe_close, observe_other, observe_opened, on_target}
 use Rattle.spec_duties.specs.Observations.{observe_call, observe_pending, observe_effect, observe_taking, observe_dropping, view_in}
@@ -80,21 +85,37 @@ target-seen host b m Nobody = refl
 target-seen host b m (AtListener l) = next-seen host b (processing_of m)
 target-seen host b m (AtEndpoint i e) = place-seen host b (processing_of m) i
 
-drop-seen : (host : Host) (b : HostTcp) (m : Emission) (taking : Option Rule) (t : Taker)
-    → at_drop host (forget_body b) m taking (forget_taker t) ≡ at_drop host b m taking t
-drop-seen host b m taking Nobody = refl
-drop-seen host b m taking (AtListener l) = refl
-drop-seen host b m taking (AtEndpoint i e) = rw (rcv_nxt-forget e) (place-seen host b _ i)
+drop-seen : (v : Version) (host : Host) (b : HostTcp) (m : Emission) (taking : Option Rule) (t : Taker)
+    → at_drop v host (forget_body b) m taking (forget_taker t) ≡ at_drop v host b m taking t
+drop-seen v host b m taking Nobody = refl
+drop-seen v host b m taking (AtListener l) = refl
+drop-seen v host b m taking (AtEndpoint i e) = rw (rcv_nxt-forget e) (place-seen host b _ i)
 
-droppable-forget : (b : HostTcp) (m : Emission) (t : Taker) → droppable_by (forget_body b) m (forget_taker t) ≡ droppable_by b m t
-droppable-forget b m Nobody = refl
-droppable-forget b m (AtListener l) = refl
-droppable-forget b m (AtEndpoint i e) = rw (rcv_nxt-forget e) refl
+droppable-forget : (h : Header) (b : HostTcp) (m : Emission) (t : Taker)
+    → droppable_by h.version (forget_body b) m (forget_taker t) ≡ droppable_by h.version b m t
+droppable-forget h b m Nobody = refl
+droppable-forget h b m (AtListener l) = refl
+droppable-forget h b m (AtEndpoint i e) = rw (read-forget h e m, rcv_nxt-forget e) refl
+
+old-forget : (v : Version) (m : Emission) (t : Taker) → is_old v m (forget_taker t) ≡ is_old v m t
+old-forget v m Nobody = refl
+old-forget v m (AtListener l) = refl
+old-forget v m (AtEndpoint i e) = rw (rcv_nxt-forget e) refl
 
 discards-forget : (h : Header) (how : TakeChoice) (m : Emission) (t : Taker) → discards_at h.version how m (forget_taker t) ≡ discards_at h.version how m t
 discards-forget h how m Nobody = refl
 discards-forget h how m (AtListener l) = refl
 discards-forget h how m (AtEndpoint i e) = rw (read-forget h e m, rcv_nxt-forget e) refl
+
+-- a measurement reads what isn't acknowledged
+measure-forget : (v : Version) (e : Endpoint) (m : Emission) → may_measure v (forget_endpoint e) m ≡ may_measure v e m
+measure-forget v e m = rw (again-forget e e.stream.snd_una 1 (omega arith), sample-forget v e m) refl
+
+sampling-forget : (h : Header) (how : TakeChoice) (m : Emission) (t : Taker) → sampling_at h.version how m (forget_taker t) ≡ sampling_at h.version how m t
+sampling-forget h how m Nobody = refl
+sampling-forget h how m (AtListener l) = refl
+sampling-forget h how m (AtEndpoint i e) =
+    rw (read-forget h e m, measure-forget h.version e (as_read h.version e m)) refl
 
 sender-seen : (host : Host) (b : HostTcp) (m : Emission) → at_sender host (forget_body b) m ≡ at_sender host b m
 sender-seen host b m = rw (place-seen host b (sending_of m) m.sender.number) refl
@@ -131,20 +152,27 @@ host_step-seen h moment w fresh host s (network.Takes line how) = by (waiting li
     by : (o : Option Emission) → on o unseen (see (forget_body s.body)) ≡ on o unseen (see s.body)
     by None = refl
     by (Some m) =
-        rw (taker-forget s.body m, target-seen host s.body m (taker s.body m), discards-forget h how m (taker s.body m)) refl
+        rw (
+          taker-forget s.body m,
+          target-seen host s.body m (taker s.body m),
+          discards-forget h how m (taker s.body m),
+          sampling-forget h how m
+              (taker s.body m),
+        ) refl
 host_step-seen h moment w fresh host s (network.Drops line) =
     rw (taking-forget h moment w host line, answering-forget h w host line) (by (waiting line s.inbox))
   where
     see : HostTcp → Emission → Observation
-    see b m = observe_dropping host b line (taking_breaks h moment w host line) (answering_breaks h w host line) m (taker b m)
+    see b m = observe_dropping h.version host b line (taking_breaks h moment w host line) (answering_breaks h w host line) m (taker b m)
 
     by : (o : Option Emission) → on o unseen (see (forget_body s.body)) ≡ on o unseen (see s.body)
     by None = refl
     by (Some m) =
         rw (
           taker-forget s.body m,
-          droppable-forget s.body m (taker s.body m),
-          drop-seen host s.body m (taking_breaks h moment w host line) (taker s.body m),
+          droppable-forget h s.body m (taker s.body m),
+          old-forget h.version m (taker s.body m),
+          drop-seen h.version host s.body m (taking_breaks h moment w host line) (taker s.body m),
         ) refl
 host_step-seen h moment w fresh host s (network.Answers line) = refl
 
@@ -263,19 +291,19 @@ view_in-forget w (Some t) = by t.host
     by One = view-at w.hosts.one.body.endpoints t.place
 
 -- nor at the end
-lates-forget : (slack moment : ℕ) (d : Duties) (host : Host) (place : ℕ) (so_far : Lates) (es : List Endpoint)
-    → lates_from slack moment d host place so_far (map forget_endpoint es) ≡ lates_from slack moment d host place so_far es
-lates-forget slack moment d host place so_far [] = refl
-lates-forget slack moment d host place so_far (e ∷ es) =
-    ap (λ (v : View). lates_from slack moment d host (suc place)
-    (either so_far (lates_of slack moment v (listener_closed d host v) (owed_by d host place))) (map forget_endpoint es)) (view-forget e)
-    ∙ lates-forget slack moment d host (suc place) (either so_far (lates_at slack moment d host place e)) es
+lates-forget : (h : Header) (slack moment : ℕ) (d : Duties) (host : Host) (place : ℕ) (so_far : Lates) (es : List Endpoint)
+    → lates_from h slack moment d host place so_far (map forget_endpoint es) ≡ lates_from h slack moment d host place so_far es
+lates-forget h slack moment d host place so_far [] = refl
+lates-forget h slack moment d host place so_far (e ∷ es) =
+    ap (λ (v : View). lates_from h slack moment d host (suc place)
+    (either so_far (judged_lates h slack moment d None host place v)) (map forget_endpoint es)) (view-forget e)
+    ∙ lates-forget h slack moment d host (suc place) (either so_far (lates_at h slack moment d host place e)) es
 
-end-forget : (slack moment : ℕ) (d : Duties) (w : World tcp_shape) → lates_of_all slack moment d (forget w) ≡ lates_of_all slack moment d w
-end-forget slack moment d w =
-    lates-forget slack moment d One 0 (lates_of_host slack moment d (forget w) Zero (none_late false)) w.hosts.one.body.endpoints
-    ∙ ap (λ (so_far : Lates). lates_of_host slack moment d w One so_far)
-    (lates-forget slack moment d Zero 0 (none_late false) w.hosts.zero.body.endpoints)
+end-forget : (h : Header) (slack moment : ℕ) (d : Duties) (w : World tcp_shape) → lates_of_all h slack moment d (forget w) ≡ lates_of_all h slack moment d w
+end-forget h slack moment d w =
+    lates-forget h slack moment d One 0 (lates_of_host h slack moment d (forget w) Zero (none_late false)) w.hosts.one.body.endpoints
+    ∙ ap (λ (so_far : Lates). lates_of_host h slack moment d w One so_far)
+    (lates-forget h slack moment d Zero 0 (none_late false) w.hosts.zero.body.endpoints)
 
 pub late-forget : (h : Header) (moment : ℕ) (k : Known) → late_at_end h moment (cases.forget k) ≡ late_at_end h moment k
 late-forget h moment k = by h.slack
@@ -283,10 +311,12 @@ late-forget h moment k = by h.slack
     with : ℕ → Lates → Option (ℕ × Rule)
     with slack l =
         option_map (λ rule. (line_of (first_waiting slack moment k.duties.inbox) rule, rule))
-        (first_broken ((rules.ProcessLate, is_some (first_waiting slack moment k.duties.inbox)) ∷ late_rules l))
+        (first_broken ((rules.ProcessLate, is_some (first_waiting slack moment k.duties.inbox))
+        ∷ (rules.SendLate, any_unsent (is_send_late slack moment) k.duties.unsent)
+        ∷ late_rules (with_brought (any_unsent (is_brought_late slack moment) k.duties.unsent) l)))
 
     by : (o : Option ℕ)
-        → on o None (λ slack. with slack (lates_of_all slack moment k.duties (forget k.model)))
-        ≡ on o None (λ slack. with slack (lates_of_all slack moment k.duties k.model))
+        → on o None (λ slack. with slack (lates_of_all h slack moment k.duties (forget k.model)))
+        ≡ on o None (λ slack. with slack (lates_of_all h slack moment k.duties k.model))
     by None = refl
-    by (Some slack) = ap (with slack) (end-forget slack moment k.duties k.model)
+    by (Some slack) = ap (with slack) (end-forget h slack moment k.duties k.model)

@@ -6,6 +6,7 @@ use Rattle.std.specs.Option.{option_map, option_map_or}
 use Rattle.std.proofs.lemmas.Bool.Decides.{nat_tests}
 use Rattle.std.proofs.lemmas.List.{length-map}
 use Rattle.std.proofs.lemmas.Option.{slice_get-map}
+use Rattle.case_forms.specs.declared.version.Version.{Version}
 use Rattle.case_forms.specs.States.{is_closed, is_syn_sent}
 use Rattle.case_forms.specs.declared.calls.Answer.{Answer}
 use Rattle.case_forms.specs.declared.calls.Answer.TheVariants as answers
@@ -46,7 +47,8 @@ use Rattle.spec_tcp_laws.proofs.JudgedActs.{MayJudgeAll, nothing_same, taker_by,
 use Rattle.spec_tcp_laws.proofs.JudgedBodies.{place_by}
 use Rattle.spec_tcp_laws.proofs.JudgedRules.{MayJudge}
 use Rattle.spec_tcp_laws.proofs.JudgedWorlds.{aim_same, may_judge}
-use Rattle.spec_duties.specs.Dropped.{answering_breaks, bare, discards_at, droppable_by, taking_breaks}
+use Rattle.spec_duties.specs.Dropped.{answering_breaks, bare, discards_at, droppable_by, is_old, taking_breaks}
+use Rattle.spec_duties.specs.Sampling.{sampling_at}
 use Rattle.spec_duties.specs.Observations.{observe_accept, accepting, at_drop, at_next, at_place, at_ports, at_sender, at_target, observe_call, observe_close}
 use Rattle.spec_duties.specs.Observations.{observe_host_step, observe_dropping, observe_effect, is_done, on_target, observe_opened, observe_other}
 use Rattle.spec_duties.specs.Observations.{observe_pending, processing_of}
@@ -103,11 +105,11 @@ target_seen p host b m Nobody may = untouched
 target_seen p host b m (AtListener l) may = next_seen p host b (processing_of m)
 target_seen p host b m (AtEndpoint i e) may = place_seen p host b (processing_of m) i may
 
-drop_seen : (p : Profile) (host : Host) (b : HostTcp) (m : Emission) (taking : Option Rule) (t : Taker) → MayJudgeAll p b
-    → Higher (at_drop host b m taking t) (at_drop host (body_by p b) m taking (taker_by p t))
-drop_seen p host b m taking Nobody may = untouched
-drop_seen p host b m taking (AtListener l) may = untouched
-drop_seen p host b m taking (AtEndpoint i e) may = place_seen p host b _ i may
+drop_seen : (p : Profile) (v : Version) (host : Host) (b : HostTcp) (m : Emission) (taking : Option Rule) (t : Taker) → MayJudgeAll p b
+    → Higher (at_drop v host b m taking t) (at_drop v host (body_by p b) m taking (taker_by p t))
+drop_seen p v host b m taking Nobody may = untouched
+drop_seen p v host b m taking (AtListener l) may = untouched
+drop_seen p v host b m taking (AtEndpoint i e) may = place_seen p host b _ i may
 
 sender_seen : (p : Profile) (host : Host) (b : HostTcp) (m : Emission) → MayJudgeAll p b → Higher (at_sender host b m) (at_sender host (body_by p b) m)
 sender_seen p host b m may = by m.is_reset_reply
@@ -178,16 +180,28 @@ answering_breaks_same : (p : Profile) (j : Judged) (h : Header) (w : World tcp_s
 answering_breaks_same p j h w Zero line = ap first_broken (answer_same p w.hosts.zero line)
 answering_breaks_same p j h w One line = ap first_broken (answer_same p w.hosts.one line)
 
-droppable_same : (p : Profile) (b : HostTcp) (m : Emission) (t : Taker) → droppable_by (body_by p b) m (taker_by p t) ≡ droppable_by b m t
-droppable_same p b m Nobody = refl
-droppable_same p b m (AtListener l) = refl
-droppable_same p b m (AtEndpoint i e) = refl
+droppable_same : (p : Profile) (v : Version) (b : HostTcp) (m : Emission) (t : Taker)
+    → droppable_by v (body_by p b) m (taker_by p t) ≡ droppable_by v b m t
+droppable_same p v b m Nobody = refl
+droppable_same p v b m (AtListener l) = refl
+droppable_same p v b m (AtEndpoint i e) = refl
+
+old_same : (p : Profile) (v : Version) (m : Emission) (t : Taker) → is_old v m (taker_by p t) ≡ is_old v m t
+old_same p v m Nobody = refl
+old_same p v m (AtListener l) = refl
+old_same p v m (AtEndpoint i e) = refl
 
 discards_same : (p : Profile) (h : Header) (how : TakeChoice) (m : Emission) (t : Taker)
     → discards_at h.version how m (taker_by p t) ≡ discards_at h.version how m t
 discards_same p h how m Nobody = refl
 discards_same p h how m (AtListener l) = refl
 discards_same p h how m (AtEndpoint i e) = refl
+
+sampling_same : (p : Profile) (h : Header) (how : TakeChoice) (m : Emission) (t : Taker)
+    → sampling_at h.version how m (taker_by p t) ≡ sampling_at h.version how m t
+sampling_same p h how m Nobody = refl
+sampling_same p h how m (AtListener l) = refl
+sampling_same p h how m (AtEndpoint i e) = refl
 
 -- ---- acts of a host
 
@@ -234,7 +248,7 @@ host_step_seen p j h moment w fresh host s (network.Takes line how) may = by (wa
         (on o unseen (λ m. observe_taking (header_by j h) host (body_by p s.body) line how m (taker (body_by p s.body) m)))
     by None = shows_same unseen refl
     by (Some m) =
-        rw (taker_is p s.body m, discards_same p h how m (taker s.body m))
+        rw (taker_is p s.body m, discards_same p h how m (taker s.body m), sampling_same p h how m (taker s.body m))
         (shown (see s.body m (taker s.body m)) _ (target_seen p host s.body m (taker s.body m) may))
 host_step_seen p j h moment w fresh host s (network.Drops line) may =
     rw (taking_breaks_same p j h moment w host line, answering_breaks_same p j h w host line) (by (waiting line s.inbox))
@@ -246,12 +260,13 @@ host_step_seen p j h moment w fresh host s (network.Drops line) may =
     answering = answering_breaks h w host line
 
     by : (o : Option Emission)
-        → ShowsHigher (on o unseen (λ m. observe_dropping host s.body line taking answering m (taker s.body m)))
-        (on o unseen (λ m. observe_dropping host (body_by p s.body) line taking answering m (taker (body_by p s.body) m)))
+        → ShowsHigher (on o unseen (λ m. observe_dropping h.version host s.body line taking answering m (taker s.body m)))
+        (on o unseen (λ m. observe_dropping h.version host (body_by p s.body) line taking answering m (taker (body_by p s.body) m)))
     by None = shows_same unseen refl
     by (Some m) =
-        rw (taker_is p s.body m, droppable_same p s.body m (taker s.body m))
-        (shown (observe_dropping host s.body line taking answering m (taker s.body m)) _ (drop_seen p host s.body m taking (taker s.body m) may))
+        rw (taker_is p s.body m, droppable_same p h.version s.body m (taker s.body m), old_same p h.version m (taker s.body m))
+        (shown (observe_dropping h.version host s.body line taking answering m (taker s.body m)) _
+        (drop_seen p h.version host s.body m taking (taker s.body m) may))
 host_step_seen p j h moment w fresh host s (network.Answers line) may = shows_same (observe_host_step h moment w fresh host s (network.Answers line)) refl
 
 -- ---- effects of calls

@@ -3,9 +3,10 @@ use Rattle.std.proofs.Common.{◌≡◌, ℕ, suc, ◌+◌, ◌≤◌, Bool, tru
 use Rattle.std.specs.Prelude.{◌&&◌, if◌then◌else◌, is_some, nat_le, nat_lt}
 use Rattle.std.specs.Option.{option_map}
 use Rattle.std.proofs.lemmas.Bool.Decides.{nat_tests}
+use Rattle.case_forms.specs.Versions.{says_sender}
 use Rattle.case_forms.specs.declared.calls.Host.{Host}
 use Rattle.case_forms.specs.declared.calls.Host.TheVariants.{Zero, One}
-use Rattle.case_forms.specs.declared.timer.Timer.TheVariants.{Giveup, Msl2, Persist, Rto}
+use Rattle.case_forms.specs.declared.timer.Timer.TheVariants.{Giveup, Msl2, Persist, Pto, Rto}
 use Rattle.case_forms.specs.declared.trace.Header.{Header}
 use Rattle.case_forms.specs.declared.version.Judged.{Judged}
 use Rattle.case_forms.specs.declared.version.Judged.TheVariants as judged
@@ -27,15 +28,19 @@ use Rattle.spec_tcp_laws.proofs.JudgedWorlds.{after_kept}
 use Rattle.spec_tcp_laws.proofs.LevelLemmas.{step_alike}
 use Rattle.duties.proofs.SlackLemmas.{AreFewer, fewer_none}
 use Rattle.spec_duties.specs.Cases.{Dutiful, Known, judged_rules, known_after, known_after_all, late_at_end, noted_by, watch_rules}
-use Rattle.spec_duties.specs.End.{either, first_waiting, lates_at, lates_from, lates_of_all, lates_of_host, line_of}
+use Rattle.spec_duties.specs.End.{any_unsent, either, first_waiting, is_brought_late, is_send_late, lates_at, lates_from, lates_of_all, lates_of_host, line_of}
 use Rattle.spec_duties.specs.declared.events.Event.{Event}
 use Rattle.spec_duties.specs.declared.events.Event.TheVariants.{Builds, Calls, Drops, Expires, Opens, Processes, Recovers, Sends}
 use Rattle.spec_duties.specs.Owed.{late_rules, none_late, owed_after}
+use Rattle.spec_duties.specs.Strict.{is_spared, strict_after, with_brought}
+use Rattle.spec_duties.specs.declared.strict.StrictOwed.{StrictOwed}
 use Rattle.spec_duties.specs.Resent.{is_repeating, is_resent, is_resent_beyond, judges_repeats, judges_windows}
 use Rattle.spec_duties.specs.Observations.{observe, view_in}
 use Rattle.spec_duties.specs.declared.observations.Observation.{Observation}
+use Rattle.spec_duties.specs.declared.observations.Sampling.{Sampling}
 use Rattle.spec_duties.specs.declared.observations.TouchedEndpoint.{TouchedEndpoint}
-use Rattle.spec_duties.specs.Watching.{Duties, builds_mere_ack, built_after, built_by, counts_now, duties_after, duty_rules, touched_rules}
+use Rattle.spec_duties.specs.Watching.{Duties, brought_by, builds_mere_ack, built_after, built_by, counts_now, duties_after, duty_rules, strict_table_after}
+use Rattle.spec_duties.specs.Watching.{touched_rules, unsent_after}
 use Rattle.spec_duties.specs.declared.owed.Lates.{Lates}
 use Rattle.spec_duties.specs.declared.owed.Owed.{Owed}
 use Rattle.spec_duties.specs.declared.observations.BuiltChange.{BuiltChange}
@@ -59,6 +64,7 @@ owed_same (Expires Rto) a b before after moment closed counts o = refl
 owed_same (Expires Persist) a b before after moment closed counts o = refl
 owed_same (Expires Msl2) a b before after moment closed counts o = refl
 owed_same (Expires Giveup) a b before after moment closed counts o = refl
+owed_same (Expires Pto) a b before after moment closed counts o = refl
 owed_same Recovers a b before after moment closed counts o = refl
 
 mere_same : (a b : ℕ) (after : View) (t : TouchedEndpoint) → builds_mere_ack (view_with b after) (touched_with a t) ≡ builds_mere_ack after t
@@ -84,20 +90,60 @@ built_same a b after moment None (built_change.Builds number) built = refl
 built_same a b after moment (Some t) (built_change.Builds number) built = rw (mere_same a b after t) refl
 built_same a b after moment o (built_change.Sends number) built = refl
 
-duties_same : (a b : ℕ) (after : View) (moment : ℕ) (s : Observation) (d : Duties)
-    → duties_after (view_with b after) moment (observed_with a s) d ≡ duties_after after moment s d
-duties_same a b after moment s d = rw (built_same a b after moment s.touched s.built_change d.built) (by s.touched)
+strict_same : (s : Sampling) (event : Event) (a b : ℕ) (before after : View) (moment : ℕ) (acknowledged : Option ℕ) (o : StrictOwed)
+    → strict_after s event (view_with a before) (view_with b after) moment acknowledged o ≡ strict_after s event before after moment acknowledged o
+strict_same s Opens a b before after moment acknowledged o = refl
+strict_same s (Calls abort) a b before after moment acknowledged o = refl
+strict_same s (Processes length rst) a b before after moment acknowledged o = refl
+strict_same s (Drops asks unlimited) a b before after moment acknowledged o = refl
+strict_same s (Builds m) a b before after moment acknowledged o = refl
+strict_same x (Sends s) a b before after moment acknowledged o = refl
+strict_same s (Expires timer) a b before after moment acknowledged o = refl
+strict_same s Recovers a b before after moment acknowledged o = refl
+
+spared_same : (event : Event) (a : ℕ) (before : View) → is_spared event (view_with a before) ≡ is_spared event before
+spared_same (Builds m) a before = refl
+spared_same Opens a before = refl
+spared_same (Calls abort) a before = refl
+spared_same (Processes length rst) a before = refl
+spared_same (Drops asks unlimited) a before = refl
+spared_same (Sends s) a before = refl
+spared_same (Expires timer) a before = refl
+spared_same Recovers a before = refl
+
+unsent_same : (a moment : ℕ) (d : Duties) (o : Option TouchedEndpoint) (it : BuiltChange)
+    → unsent_after moment d (option_map (touched_with a) o) it ≡ unsent_after moment d o it
+unsent_same a moment d o built_change.Nothing = refl
+unsent_same a moment d None (built_change.Builds number) = refl
+unsent_same a moment d (Some t) (built_change.Builds number) = rw (spared_same t.event a t.before) refl
+unsent_same a moment d o (built_change.Sends number) = refl
+
+table_same : (a b : ℕ) (after : View) (moment : ℕ) (d : Duties) (s : Sampling) (o : Option TouchedEndpoint)
+    → on (option_map (touched_with a) o) d.strict (strict_table_after (view_with b after) moment d s) ≡ on o d.strict (strict_table_after after moment d s)
+table_same a b after moment d s None = refl
+table_same a b after moment d s (Some t) = rw (strict_same s t.event a b t.before after moment _ _) refl
+
+duties_same : (strict : Bool) (a b : ℕ) (after : View) (moment : ℕ) (s : Observation) (d : Duties)
+    → duties_after strict (view_with b after) moment (observed_with a s) d ≡ duties_after strict after moment s d
+duties_same strict a b after moment s d =
+    rw (built_same a b after moment s.touched s.built_change d.built) (rw (unsent_same a moment d s.touched s.built_change)
+    (rw (table_same a b after moment d s.sampling s.touched) (by s.touched)))
   where
     with : Option TouchedEndpoint → Observation
     with o = record s { touched = o }
 
     by : (o : Option TouchedEndpoint)
         → (let x : Duties =
-        record (duties_after (view_with b after) moment (observed_with a (with o)) d) {
-          built =
-              built_after after moment s.touched s.built_change d.built;
+        record (duties_after strict (view_with b after) moment (observed_with a (with o)) d) {
+          built = built_after after moment s.touched s.built_change d.built;
+          strict = if strict then on s.touched d.strict (strict_table_after after moment d s.sampling) else d.strict;
+          unsent = if strict then unsent_after moment d s.touched s.built_change else d.unsent;
         } in x)
-        ≡ record (duties_after after moment (with o) d) { built = built_after after moment s.touched s.built_change d.built }
+        ≡ record (duties_after strict after moment (with o) d) {
+          built = built_after after moment s.touched s.built_change d.built;
+          strict = if strict then on s.touched d.strict (strict_table_after after moment d s.sampling) else d.strict;
+          unsent = if strict then unsent_after moment d s.touched s.built_change else d.unsent;
+        }
     by None = refl
     by (Some t) =
         rw (owed_same t.event a b t.before after moment _ _ _) refl
@@ -148,13 +194,14 @@ beyond_less j k edge (Builds m) v le higher e =
     (nat_lt edge (m.pos + m.len)) (windows_less j k le) (below v.congestion_edge edge (m.pos + m.len) higher) e
 beyond_less j k edge _ v le higher e = refl
 
-touched_fewer : (j : Judged) (h : Header) (slack moment : ℕ) (d : Duties) (counts : Bool) (edge : ℕ) (o : Option TouchedEndpoint)
+touched_fewer : (j : Judged) (h : Header) (slack moment : ℕ) (d : Duties) (counts : Bool) (brought : Option ℕ) (s : Sampling) (edge : ℕ)
+    (o : Option TouchedEndpoint)
     → extent j ≤ extent h.congestion
     → EndsBelow edge o
-    → AreFewer (on o [] (touched_rules h slack moment d counts))
-    (on (option_map (touched_with edge) o) [] (touched_rules (header_by j h) slack moment d counts))
-touched_fewer j h slack moment d counts edge None le higher = tt
-touched_fewer j h slack moment d counts edge (Some t) le higher = (
+    → AreFewer (on o [] (touched_rules h slack moment d counts brought s))
+    (on (option_map (touched_with edge) o) [] (touched_rules (header_by j h) slack moment d counts brought s))
+touched_fewer j h slack moment d counts brought s edge None le higher = tt
+touched_fewer j h slack moment d counts brought s edge (Some t) le higher = (
   λ e. e,
   (
     λ e. e,
@@ -164,7 +211,16 @@ touched_fewer j h slack moment d counts edge (Some t) le higher = (
         λ e. e,
         (
           λ e. e,
-          (λ e. e, (resent_less j h.congestion edge t.event t.before _ le, (beyond_less j h.congestion edge t.event t.before le higher, (λ e. e, tt)))),
+          (
+            λ e. e,
+            (
+              resent_less j h.congestion edge t.event t.before _ le,
+              (
+                beyond_less j h.congestion edge t.event t.before le higher,
+                (λ e. e, (λ e. e, tt)),
+              ),
+            ),
+          ),
         ),
       ),
     ),
@@ -177,8 +233,20 @@ rules_fewer : (j : Judged) (h : Header) (moment : ℕ) (d : Duties) (edge : ℕ)
     → first_broken (on slack [] (λ slack. duty_rules (header_by j h) slack moment d (observed_with edge s))) ≡ None
 rules_fewer j h moment d edge s None le higher e = refl
 rules_fewer j h moment d edge s (Some slack) le higher e =
-    fewer_none (duty_rules h slack moment d s) (duty_rules (header_by j h) slack moment d (observed_with edge s))
-    (λ e. e, (λ e. e, (λ e. e, (λ e. e, touched_fewer j h slack moment d (counts_now (built_by d s.built_change)) edge s.touched le higher)))) e
+    fewer_none (duty_rules h slack moment d s) (duty_rules (header_by j h) slack moment d (observed_with edge s)) (
+      λ e. e,
+      (
+        λ e. e,
+        (
+          λ e. e,
+          (
+            λ e. e,
+            touched_fewer j h slack moment d (counts_now (built_by d s.built_change))
+                (brought_by d s.built_change) s.sampling edge s.touched le higher,
+          ),
+        ),
+      ),
+    ) e
 
 -- ---- a step of a case
 
@@ -230,13 +298,13 @@ noted_same : (j : Judged) (h : Header) (moment : ℕ) (w : World tcp_shape) (edg
     → noted_by (header_by j h) moment (world_judged j h w) (observed_with edge s) d ≡ noted_by h moment w s d
 noted_same j h moment w edge s d =
     let seen = view_seen (profile_of (header_by j h)) w edge s.touched in
-    ap (λ (v : View). on h.slack d (λ slack. duties_after v moment (observed_with edge s) d)) seen.1 ∙ by seen.0 h.slack
+    ap (λ (v : View). on h.slack d (λ slack. duties_after (says_sender h.version) v moment (observed_with edge s) d)) seen.1 ∙ by seen.0 h.slack
   where
     by : (b : ℕ) (slack : Option ℕ)
-        → on slack d (λ slack. duties_after (view_with b (view_in w s.touched)) moment (observed_with edge s) d)
-        ≡ on slack d (λ slack. duties_after (view_in w s.touched) moment s d)
+        → on slack d (λ slack. duties_after (says_sender h.version) (view_with b (view_in w s.touched)) moment (observed_with edge s) d)
+        ≡ on slack d (λ slack. duties_after (says_sender h.version) (view_in w s.touched) moment s d)
     by b None = refl
-    by b (Some slack) = duties_same edge b (view_in w s.touched) moment s d
+    by b (Some slack) = duties_same (says_sender h.version) edge b (view_in w s.touched) moment s d
 
 known_kept : (j : Judged) (h : Header) (moment : ℕ) (k : Known) (step : Step tcp_shape) → extent j ≤ extent h.congestion → IsJudged h k.model
     → known_after (header_by j h) moment (known_judged j h k) step ≡ known_judged j h (known_after h moment k step)
@@ -274,17 +342,18 @@ known_by j h k (x ∷ xs) le is may =
     ap (λ (n : Known). known_after_all (header_by j h) n xs) (known_kept j h x.moment k x.step le is)
     ∙ known_by j h (known_after h x.moment k x.step) xs le (judged_step h x.moment k.model x.step is may.0) may.1
 
-lates_same : (p : Profile) (slack moment : ℕ) (d : Duties) (host : Host) (place : ℕ) (so_far : Lates) (es : List Endpoint)
-    → lates_from slack moment d host place so_far (map (endpoint_by p) es) ≡ lates_from slack moment d host place so_far es
-lates_same p slack moment d host place so_far [] = refl
-lates_same p slack moment d host place so_far (e ∷ es) =
-    lates_same p slack moment d host (suc place) (either so_far (lates_at slack moment d host place e)) es
+lates_same : (h : Header) (p : Profile) (slack moment : ℕ) (d : Duties) (host : Host) (place : ℕ) (so_far : Lates) (es : List Endpoint)
+    → lates_from h slack moment d host place so_far (map (endpoint_by p) es) ≡ lates_from h slack moment d host place so_far es
+lates_same h p slack moment d host place so_far [] = refl
+lates_same h p slack moment d host place so_far (e ∷ es) =
+    lates_same h p slack moment d host (suc place) (either so_far (lates_at h slack moment d host place e)) es
 
-all_same : (p : Profile) (slack moment : ℕ) (d : Duties) (w : World tcp_shape) → lates_of_all slack moment d (world_by p w) ≡ lates_of_all slack moment d w
-all_same p slack moment d w =
-    lates_same p slack moment d One 0 (lates_of_host slack moment d (world_by p w) Zero (none_late false)) w.hosts.one.body.endpoints
-    ∙ ap (λ (so_far : Lates). lates_of_host slack moment d w One so_far)
-    (lates_same p slack moment d Zero 0 (none_late false) w.hosts.zero.body.endpoints)
+all_same : (h : Header) (p : Profile) (slack moment : ℕ) (d : Duties) (w : World tcp_shape) → lates_of_all h slack moment d (world_by p w)
+    ≡ lates_of_all h slack moment d w
+all_same h p slack moment d w =
+    lates_same h p slack moment d One 0 (lates_of_host h slack moment d (world_by p w) Zero (none_late false)) w.hosts.one.body.endpoints
+    ∙ ap (λ (so_far : Lates). lates_of_host h slack moment d w One so_far)
+    (lates_same h p slack moment d Zero 0 (none_late false) w.hosts.zero.body.endpoints)
 
 pub end_by : (j : Judged) (h : Header) (moment : ℕ) (k : Known) → late_at_end (header_by j h) moment (known_judged j h k) ≡ late_at_end h moment k
 end_by j h moment k = by h.slack
@@ -292,10 +361,12 @@ end_by j h moment k = by h.slack
     with : ℕ → Lates → Option (ℕ × Rule)
     with slack l =
         option_map (λ rule. (line_of (first_waiting slack moment k.duties.inbox) rule, rule))
-        (first_broken ((rules.ProcessLate, is_some (first_waiting slack moment k.duties.inbox)) ∷ late_rules l))
+        (first_broken ((rules.ProcessLate, is_some (first_waiting slack moment k.duties.inbox))
+        ∷ (rules.SendLate, any_unsent (is_send_late slack moment) k.duties.unsent)
+        ∷ late_rules (with_brought (any_unsent (is_brought_late slack moment) k.duties.unsent) l)))
 
     by : (o : Option ℕ)
-        → on o None (λ slack. with slack (lates_of_all slack moment k.duties (world_judged j h k.model)))
-        ≡ on o None (λ slack. with slack (lates_of_all slack moment k.duties k.model))
+        → on o None (λ slack. with slack (lates_of_all h slack moment k.duties (world_judged j h k.model)))
+        ≡ on o None (λ slack. with slack (lates_of_all h slack moment k.duties k.model))
     by None = refl
-    by (Some slack) = ap (with slack) (all_same (profile_of (header_by j h)) slack moment k.duties k.model)
+    by (Some slack) = ap (with slack) (all_same h (profile_of (header_by j h)) slack moment k.duties k.model)

@@ -6,7 +6,7 @@ use Rattle.case_forms.specs.declared.calls.Call.{Call}
 use Rattle.case_forms.specs.declared.calls.Host.{Host}
 use Rattle.case_forms.specs.declared.steps.TakeChoice.{TakeChoice}
 use Rattle.case_forms.specs.declared.taken_line.Expired.{Expired}
-use Rattle.case_forms.specs.declared.taken_line.Expired.TheVariants.{Giveup, Msl2, Persist, Rto}
+use Rattle.case_forms.specs.declared.taken_line.Expired.TheVariants.{Giveup, Msl2, Persist, Pto, Rto}
 use Rattle.case_forms.specs.declared.trace.Header.{Header}
 use Rattle.verdict.specs.declared.rule.Rule.{Rule}
 use Rattle.verdict.specs.declared.rule.Rule.TheVariants as rules
@@ -40,6 +40,7 @@ module _ (slack : Option ℕ) (h : Header) where
   expiry_same moment e Persist = refl
   expiry_same moment e Msl2 = refl
   expiry_same moment e Giveup = refl
+  expiry_same moment e Pto = refl
 
   taker_same : (me : Host) (b : HostTcp) (how : TakeChoice) (m : Emission) (moment : ℕ) (t : Taker)
       → taker_rules g me b how m moment t ≡ taker_rules h me b how m moment t

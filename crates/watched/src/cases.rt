@@ -95,7 +95,10 @@ impl Case {
         ensures { result ≡ late_at_end self.now.header moment self.now.world }
     {
         match self.world.header().slack {
-            Some(slack) => case_end::late_at_end(slack, moment, &self.duties, &self.world),
+            Some(slack) => {
+                let header = self.world.header();
+                case_end::late_at_end(header, slack, moment, &self.duties, &self.world)
+            }
             None => None,
         }
     }
@@ -118,7 +121,8 @@ fn watch(
         return Ok(());
     };
     duties.admits(world.header(), slack, moment, seen)?;
-    duties.note(moment, seen, &view_in(world, &seen.touched))?;
+    let strict = world.header().version.says_sender();
+    duties.note(strict, moment, seen, &view_in(world, &seen.touched))?;
     Ok(())
 }
 

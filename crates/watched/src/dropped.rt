@@ -1,21 +1,24 @@
 //! What may process a segment, which rules that would break, and whether it need not be processed.
 //! `lib.rt` says why `discards_at` is inlined.
 
-ghost use Rattle.std.specs.Prelude.{◌≡◌};
+ghost use Rattle.std.specs.Prelude.{◌≡◌, ◌<◌, ◌^◌};
 ghost use Rattle.std.specs.Option.{option_map_or};
 ghost use Rattle.std.specs.Result.{result_err};
 ghost use Rattle.endpoint_state.specs.Kept.{AreReadable};
 ghost use Rattle.spec_tcp.specs.Arrives.{AtListener, Nobody, taker};
 ghost use Rattle.spec_tcp.specs.HostTcp.{listener_on};
 ghost use Rattle.spec_duties.specs.Dropped.{answering_breaks, discards_at, droppable_at_listener, droppable_by};
-ghost use Rattle.spec_duties.specs.Dropped.{taking_breaks};
+ghost use Rattle.spec_duties.specs.Dropped.{droppable_at_endpoint, is_old, taking_breaks};
 ghost use Rattle.watched.specs.Targets.{taker_at};
 
 use case_forms::{Host, TakeChoice, Version};
-use duties::{Target, discards, is_challenged, meets_closed_window};
+use duties::{
+    Target, acknowledges_less, discards, is_below_irs, is_challenged, meets_closed_window,
+    reads_old_numbers,
+};
 use endpoint_state::{HostTcp, World};
 use spec_duties::Droppable;
-use spec_tcp::{Arrived, Emission};
+use spec_tcp::{Arrived, Emission, Endpoint};
 use verdict::Rule;
 
 fn target_on(b: &HostTcp, port: u16) -> Target
@@ -80,29 +83,57 @@ fn droppable_at_listener(b: &HostTcp, place: u32) -> Droppable
     }
 }
 
-fn droppable_at_endpoint(b: &HostTcp, m: &Emission, place: u32) -> Droppable
-    ensures { result ≡ droppable_by b.now m.now (taker_at b.now (Target.Endpoint place)) }
+// The same at an endpoint.
+fn droppable_at(version: Version, m: &Emission, place: u32, e: &Endpoint) -> Droppable
+    requires { e.now.stream.snd_una < 2 ^ 63 }
+    ensures { result ≡ droppable_at_endpoint version m.now place e.now }
+{
+    if is_challenged(e, m) || meets_closed_window(e, m) {
+        return Droppable::Yes;
+    }
+    let read = Arrived::read(version, e, m);
+    if !acknowledges_less(version, e, &read) {
+        return Droppable::No;
+    }
+    Droppable::IfStale {
+        place,
+        behind: e.stream.snd_una - read.ack(),
+    }
+}
+
+#[tactic(auto, using(endpoint_state::proofs::Readable::una_at))]
+fn droppable_at_endpoint(version: Version, b: &HostTcp, m: &Emission, place: u32) -> Droppable
+    requires { AreReadable b.now.endpoints }
+    ensures { result ≡ droppable_by version b.now m.now (taker_at b.now (Target.Endpoint place)) }
 {
     match b.endpoint_at(place) {
-        Some(e) => {
-            if is_challenged(e, m) || meets_closed_window(e, m) {
-                Droppable::Yes
-            } else {
-                Droppable::No
-            }
-        }
+        Some(e) => droppable_at(version, m, place, e),
         None => Droppable::No,
     }
 }
 
 /// Whether what could be processed need not be.
-pub(crate) fn droppable_by(b: &HostTcp, m: &Emission, target: Target) -> Droppable
-    ensures { result ≡ droppable_by b.now m.now (taker_at b.now target) }
+pub(crate) fn droppable_by(version: Version, b: &HostTcp, m: &Emission, target: Target) -> Droppable
+    requires { AreReadable b.now.endpoints }
+    ensures { result ≡ droppable_by version b.now m.now (taker_at b.now target) }
 {
     match target {
         Target::Nobody => Droppable::No,
         Target::Listener(place) => droppable_at_listener(b, place),
-        Target::Endpoint(place) => droppable_at_endpoint(b, m, place),
+        Target::Endpoint(place) => droppable_at_endpoint(version, b, m, place),
+    }
+}
+
+/// Whether a segment's number is an old one, below the peer's initial one.
+pub(crate) fn is_old(version: Version, b: &HostTcp, m: &Emission, target: Target) -> bool
+    ensures { result ≡ is_old version m.now (taker_at b.now target) }
+{
+    let Target::Endpoint(place) = target else {
+        return false;
+    };
+    match b.endpoint_at(place) {
+        Some(e) => reads_old_numbers(version) && is_below_irs(e, m),
+        None => false,
     }
 }
 

@@ -7,7 +7,7 @@
 //!
 //! - `cases`: a case with its duties: each step, and the comparison at the end
 //! - `observations`: what a step shows of the world; `calls`: the same for the effect of a call; `dropped`: for a
-//!   segment that is dropped
+//!   segment that is dropped; `sampling`: whether a round trip is measured
 //! - `case_end`: what is late at the end; `laws`: what duties read of the world and of the header
 #![tactic(auto)]
 
@@ -17,6 +17,7 @@ mod cases;
 mod dropped;
 mod laws;
 mod observations;
+mod sampling;
 
 pub use case_end::late_at_end;
 pub use cases::{Case, apply_hidden, take_line};

@@ -19,12 +19,18 @@ ghost use Rattle.spec_duties.specs.declared.observations.InboxChange.TheVariants
 ghost use Rattle.watched.specs.Targets.{taker_at};
 
 use crate::calls::observe_effect;
-use crate::dropped::{admits_answering, admits_processing, discards_at, droppable_by, target_of};
-use case_forms::{Host, Ports, SegmentPlan, TakeChoice, TakenLine};
-use duties::{Target, asks, dropping_of, has_content, processing_place, unborn, view_of};
+use crate::dropped::{
+    admits_answering, admits_processing, discards_at, droppable_by, is_old, target_of,
+};
+use crate::sampling::sampling_at;
+use case_forms::{Host, Ports, SegmentPlan, TakeChoice, TakenLine, Version};
+use duties::{
+    Target, asks, dropping_of, has_content, processing_place, reads_old_numbers, unborn, view_of,
+};
 use endpoint_state::{HostTcp, World};
 use spec_duties::{
-    BuiltChange, Event, InboxChange, Observation, Queueing, Sending, TouchedEndpoint, View,
+    BuiltChange, Event, InboxChange, Observation, Queueing, Sampling, Sending, TouchedEndpoint,
+    View,
 };
 use spec_step::Hidden;
 use spec_tcp::Emission;
@@ -42,6 +48,7 @@ pub(crate) fn unseen() -> Observation
         queueing: Queueing::Nothing,
         dropping: None,
         discards: false,
+        sampling: Sampling::Nothing,
     }
 }
 
@@ -155,13 +162,14 @@ fn at_target(host: Host, b: &HostTcp, m: &Emission, target: Target) -> Option<To
 
 #[inline(always)]
 fn at_drop(
+    version: Version,
     host: Host,
     b: &HostTcp,
     m: &Emission,
     processing: Result<(), Rule>,
     target: Target,
 ) -> Option<TouchedEndpoint>
-    ensures { result ≡ at_drop host b.now m.now (result_err processing) (taker_at b.now target) }
+    ensures { result ≡ at_drop version host b.now m.now (result_err processing) (taker_at b.now target) }
 {
     let Target::Endpoint(place) = target else {
         return None;
@@ -170,13 +178,14 @@ fn at_drop(
         return None;
     };
     let event = Event::Drops {
-        asks: asks(m, processing, endpoint),
+        asks: asks(reads_old_numbers(version), m, processing, endpoint),
         unlimited: has_content(m),
     };
     at_place(host, b, event, place)
 }
 
 // A host drops what waits under this line.
+#[tactic(auto, using(endpoint_state::proofs::Readable::kept_reads))]
 #[inline(always)]
 fn observe_drop(world: &World, host: Host, line: u64, moment: u64) -> Observation
     ensures { result ≡ observe world.now.header moment world.now.world (network.At host (network.Drops line)) }
@@ -184,15 +193,17 @@ fn observe_drop(world: &World, host: Host, line: u64, moment: u64) -> Observatio
     let Some(m) = world.waiting(host, line) else {
         return unseen();
     };
+    world.is_kept();
     let body = world.body(host);
     let processing = admits_processing(world, moment, host, line);
     let answering = admits_answering(world, host, line);
-    let target = target_of(body, m);
-    let droppable = droppable_by(body, m, target);
+    let (version, target) = (world.header().version, target_of(body, m));
+    let droppable = droppable_by(version, body, m, target);
+    let old = is_old(version, body, m, target);
     Observation {
-        touched: at_drop(host, body, m, processing, target),
+        touched: at_drop(version, host, body, m, processing, target),
         inbox_change: InboxChange::Leaves(line),
-        dropping: Some(dropping_of(host, processing, answering, droppable)),
+        dropping: Some(dropping_of(host, processing, answering, droppable, old)),
         ..unseen()
     }
 }
@@ -215,11 +226,12 @@ pub(crate) fn observe_taking(
     };
     world.is_kept();
     let body = world.body(host);
-    let target = target_of(body, m);
+    let (version, target) = (world.header().version, target_of(body, m));
     Observation {
         touched: at_target(host, body, m, target),
         inbox_change: InboxChange::Leaves(line),
-        discards: discards_at(world.header().version, body, how, m, target),
+        discards: discards_at(version, body, how, m, target),
+        sampling: sampling_at(version, body, how, m, target),
         ..unseen()
     }
 }

@@ -19,7 +19,12 @@ pub(crate) fn compare(out: &mut String, scene: &Scene, rule: Rule) -> Result<(),
         Rule::Unplaced => order::unplaced(out, scene),
         Rule::Dropped => limits::dropped(out, scene),
         Rule::AckExcess => limits::ack_excess(out, scene),
+        Rule::SampleDue => limits::sample_due(out, scene),
         Rule::ProcessLate => late::waiting(out, scene),
+        Rule::SendLate => {
+            late::never_sent(out, scene)?;
+            compare_at(out, scene, rule)
+        }
         Rule::AckLate
         | Rule::ExpiryLate
         | Rule::ResendLate
@@ -55,7 +60,6 @@ pub(crate) fn compare(out: &mut String, scene: &Scene, rule: Rule) -> Result<(),
         | Rule::TimerEarly
         | Rule::Recovery
         | Rule::Discarded
-        | Rule::SendLate
         | Rule::Resent
         | Rule::ResentBeyond => compare_at(out, scene, rule),
         // What the step is about says it all.

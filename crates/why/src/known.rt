@@ -6,7 +6,7 @@ use crate::other_windows::say_fitting;
 use crate::scene::{Building, Expiring, Object, Processing, Scene};
 use crate::sendable::sendable_bytes;
 use crate::{resets, wire};
-use case_forms::{Call, Extras, Judged, OutOfMemory, Timer, Wire};
+use case_forms::{Call, Extras, Judged, OutOfMemory, RecoveryChange, Timer, Wire};
 use endpoint::greatest_values;
 use endpoint_state::Endpoint;
 use plain_words::{Known, about};
@@ -60,9 +60,16 @@ fn is_known(scene: &Scene, known: Known) -> bool {
             _ => known == Known::Processing,
         },
         Object::Listening(..) => matches!(known, Known::Processing | Known::NothingNew),
-        Object::Recovering(..) => known == Known::NothingOutstanding && is_none,
+        Object::Recovering(_, it) => match it.change {
+            RecoveryChange::Begins => known == Known::NothingOutstanding && is_none,
+            RecoveryChange::IsUndone => known == Known::IsUndone,
+        },
         Object::Other if scene.builds() => is_known_of_reset(scene, known),
-        Object::Other => known == Known::OtherBytes && wire::has_other_bytes(scene),
+        Object::Other => match known {
+            Known::OtherBytes => wire::has_other_bytes(scene),
+            Known::NeverSent => scene.step.is_none(),
+            _ => false,
+        },
         Object::Answered(_, m) => known == Known::ResetAnswered && m.flags.rst,
         Object::End(..) | Object::Came(..) => false,
     }
@@ -87,6 +94,7 @@ fn is_known_of_timer(scene: &Scene, it: Expiring, known: Known) -> bool {
         },
         Timer::Msl2 => matches!(known, Known::Msl2Off | Known::Msl2Early),
         Timer::Giveup => known == Known::GiveupOff,
+        Timer::Pto => known == Known::ProbesForLoss,
     }
 }
 

@@ -1,11 +1,11 @@
 //! The rules of duties that are late, at a step or after the last one.
 
-use crate::described::describe;
+use crate::described::{describe, describe_ports};
 use crate::scene::{Object, Scene};
 use crate::sendable::say_sendable;
 use case_forms::{Label, OutOfMemory};
-use plain_words::about;
-use replayed::Refusal;
+use plain_words::{Shown, about};
+use replayed::{Held, Refusal};
 use verdict::Rule;
 
 /// Writes which duty is late after the last step, if one is, and the endpoint whose it is.
@@ -19,8 +19,20 @@ pub(crate) fn describe_end(out: &mut String, scene: &Scene) -> Result<(), OutOfM
         "no step is refused, and each line is placed\nby the moment of the last step, {moment}, a duty is \
 late: {refused}"
     )?;
-    match scene.debtor {
-        Some(debtor) => describe(out, scene, debtor.id),
+    match (scene.debtor, scene.held) {
+        (Some(debtor), _) => describe(out, scene, debtor.id),
+        (None, Some(held)) => describe_builder(out, scene, held),
+        (None, None) => Ok(()),
+    }
+}
+
+// Writes the endpoint that built a segment, unless the segment is a reset that answered another one.
+fn describe_builder(out: &mut String, scene: &Scene, held: Held) -> Result<(), OutOfMemory> {
+    match scene.built_by(held.number) {
+        Some(built) => match &built.step.label {
+            Label::M { host, plan } => describe_ports(out, scene, *host, plan.lport, plan.rport),
+            _ => Ok(()),
+        },
         None => Ok(()),
     }
 }
@@ -64,16 +76,53 @@ pub(crate) fn built(out: &mut String, scene: &Scene, number: u32) -> Result<(), 
     say_due(out, scene, "it", u128::from(since))
 }
 
-/// What an endpoint owes, and when it was due.
-pub(crate) fn owed(out: &mut String, scene: &Scene) -> Result<(), OutOfMemory> {
-    describe_touched(out, scene)?;
-    match scene.debtor {
-        Some(debtor) => {
-            say_due(out, scene, debtor.debt.what, debtor.debt.due)?;
-            say_open(out, scene, debtor.debt.rule)
+/// The first segment that was built and never sent, and when it was due.
+pub(crate) fn never_sent(out: &mut String, scene: &Scene) -> Result<(), OutOfMemory> {
+    match scene.held {
+        Some(held) => {
+            say_held(out, scene, held)?;
+            out.push_str("; ")?;
+            say_due(out, scene, "it", held.late.due)
         }
         None => Ok(()),
     }
+}
+
+// Writes which step built a segment, and whether it was sent.
+fn say_held(out: &mut String, scene: &Scene, held: Held) -> Result<(), OutOfMemory> {
+    let (number, since) = (held.number, held.built);
+    if let Some(built) = scene.built_by(number) {
+        writeln!(out, "witness line {}: {}", built.line, Shown(built.text))?;
+    }
+    write!(out, "segment {number} was built there at {since}")?;
+    match scene.step {
+        Some(_) => out.push_str(", and is sent by the step"),
+        None => out.push_str(", and never sent"),
+    }
+}
+
+/// What an endpoint owes, and when it was due.
+pub(crate) fn owed(out: &mut String, scene: &Scene) -> Result<(), OutOfMemory> {
+    describe_touched(out, scene)?;
+    match (scene.debtor, scene.held) {
+        (Some(debtor), _) => {
+            say_due(out, scene, debtor.debt.what, debtor.debt.due)?;
+            say_open(out, scene, debtor.debt.rule)
+        }
+        (None, Some(held)) => brought(out, scene, held),
+        (None, None) => Ok(()),
+    }
+}
+
+// The acknowledgment that a built segment brings, and when it was due.
+fn brought(out: &mut String, scene: &Scene, held: Held) -> Result<(), OutOfMemory> {
+    say_held(out, scene, held)?;
+    let since = held.late.since;
+    writeln!(
+        out,
+        "; it brings an acknowledgment that is owed since {since}"
+    )?;
+    say_due(out, scene, "an acknowledgment", held.late.due)
 }
 
 // Writes what could be sent, if the duty is that of a window that was closed.

@@ -68,6 +68,20 @@ pub(crate) fn ack_excess(out: &mut String, scene: &Scene) -> Result<(), OutOfMem
     )
 }
 
+/// From which position on a round trip is to be measured.
+pub(crate) fn sample_due(out: &mut String, scene: &Scene) -> Result<(), OutOfMemory> {
+    describe_touched(out, scene)?;
+    let Some(id) = scene.touched else {
+        return Ok(());
+    };
+    let timed = scene.duties.strict_by(id.host, id.number).timed;
+    writeln!(
+        out,
+        "a round trip is to be measured of what was built from position {timed} on, the segment acknowledges such a \
+position, which was built once, and sample is 0"
+    )
+}
+
 // What the endpoint owes that the step touches.
 fn owed_by_touched(scene: &Scene) -> Option<Owed> {
     let id = scene.touched?;

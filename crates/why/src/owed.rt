@@ -19,7 +19,8 @@ pub(crate) fn describe_owed(
     };
     out.push_str("  owes:")?;
     let start = out.len();
-    say_debts(out, &debts_of(scene.duties, id, endpoint))?;
+    let debts = debts_of(scene.header(), scene.duties, id, endpoint);
+    say_debts(out, &debts)?;
     if start == out.len() {
         out.push_str(" nothing\n")
     } else {

@@ -21,6 +21,15 @@ pub(crate) struct Restarts {
     before_all: Option<u64>,
 }
 
+// By how much a timer may run longer, if it never expired: in version 6, SRTT and RTTVAR are up to a clock tick wrong.
+fn clock_error(header: &Header) -> u64 {
+    if header.version.says_sender() {
+        header.grain.saturating_mul(5)
+    } else {
+        header.grain
+    }
+}
+
 impl Restarts {
     /// The timer of the endpoint that builds a segment, or the timer that expires. None: the step does neither.
     pub(crate) fn from_step(case: &Case, step: Option<&Step>) -> Option<Restarts> {
@@ -66,7 +75,7 @@ impl Restarts {
     /// Since when the timer would run without a restart if its expiry at a moment is early, and then on time. None: it
     /// isn't early, or not by a restart.
     pub(crate) fn fitting(&self, header: &Header, rto: u64, moment: u64) -> Option<u64> {
-        let late = header.slack.unwrap_or(0).max(header.grain);
+        let late = header.slack.unwrap_or(0).max(clock_error(header));
         let latest = moment.saturating_add(header.grain);
         if self.armed?.saturating_add(rto) <= latest {
             return None;

@@ -9,7 +9,7 @@ use case_forms::{
 };
 use duties::Duties;
 use endpoint_state::{Endpoint, World};
-use replayed::{Case, Debtor, Refusal, Replay, ReplayFault, socket_of};
+use replayed::{Case, Debtor, Held, Refusal, Replay, ReplayFault, line_at, socket_of};
 use spec_tcp::{Arrived, Emission, EndpointId};
 use std::alloc::Global;
 use std::collections::BTreeMap;
@@ -86,6 +86,7 @@ impl<'c> Past<'c> {
                 None => None,
             },
             debtor: replay.debtor(),
+            held: replay.held(),
         }
     }
 }
@@ -111,6 +112,18 @@ pub(crate) struct Scene<'c> {
     pub touched: Option<EndpointId>,
     /// The endpoint whose duty is late at the step or after the last one. None: the rule is none of 44 to 49.
     pub debtor: Option<Debtor>,
+    /// The segment that was built and is late, if the header has version 6. None: none is.
+    pub held: Option<Held>,
+}
+
+/// The step that built a segment.
+#[derive(Clone, Copy)]
+pub(crate) struct BuiltBy<'c> {
+    /// Its line of the witness.
+    pub line: u64,
+    /// The text of that line.
+    pub text: &'c [u8],
+    pub step: &'c Step,
 }
 
 /// What a step is about, and the endpoint that it concerns.
@@ -200,6 +213,24 @@ impl<'c> Scene<'c> {
     /// The line of the witness that used a line of the trace. None: none did before the step.
     pub(crate) fn used_by(&self, line: u64) -> Option<u64> {
         self.used.get(&line).copied()
+    }
+
+    /// The step that built the segment of this number. None: none did before the refused step.
+    pub(crate) fn built_by(&self, number: u32) -> Option<BuiltBy<'c>> {
+        let case = self.case;
+        let witness = case.texts.witness;
+        let mut count: u32 = 0;
+        for (place, step) in self.before.iter().enumerate() {
+            if let Label::M { .. } | Label::R { .. } = &step.label {
+                count = count.saturating_add(1);
+                if count == number {
+                    let line = witness_line(Some(place));
+                    let text = line_at(witness, line)?;
+                    return Some(BuiltBy { line, text, step });
+                }
+            }
+        }
+        None
     }
 
     /// The line of the trace with this number. None: the trace has no such event line.

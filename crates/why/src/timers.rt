@@ -3,7 +3,7 @@
 use crate::scene::{Expiring, Scene};
 use crate::sendable::say_sendable;
 use crate::states::say_way_out;
-use case_forms::{Extras, OutOfMemory, Recovery, Timer};
+use case_forms::{Extras, OutOfMemory, Recovery, RecoveryChange, Timer};
 use endpoint::{greatest_recovery, greatest_values};
 use endpoint_state::Endpoint;
 use plain_words::word_if;
@@ -42,6 +42,7 @@ pub(crate) fn off(out: &mut String, it: Expiring) -> Result<(), OutOfMemory> {
             say_way_out(out, it.endpoint)
         }
         Timer::Giveup => giveup_off(out, it.endpoint),
+        Timer::Pto => out.push_str("no endpoint of the model probes for a loss (RFC 8985, 7)\n"),
     }
 }
 
@@ -100,7 +101,9 @@ pub(crate) fn early(out: &mut String, scene: &Scene, it: Expiring) -> Result<(),
     let (armed, time) = match it.timer {
         Timer::Rto => (timers.rto_armed, timers.rto),
         Timer::Persist => (timers.persist_armed, timers.rto),
-        Timer::Msl2 | Timer::Giveup => (timers.msl_armed, header.msl.saturating_mul(2)),
+        Timer::Msl2 | Timer::Giveup | Timer::Pto => {
+            (timers.msl_armed, header.msl.saturating_mul(2))
+        }
     };
     let (since, grain) = (armed.unwrap_or(0), header.grain);
     let earliest = since.saturating_add(time).saturating_sub(grain).max(since);
@@ -111,7 +114,7 @@ pub(crate) fn early(out: &mut String, scene: &Scene, it: Expiring) -> Result<(),
     writeln!(out, "from {earliest} on; the step's moment is {moment}")?;
     match it.timer {
         Timer::Rto => say_unrestarted(out, scene, time),
-        Timer::Persist | Timer::Msl2 | Timer::Giveup => Ok(()),
+        Timer::Persist | Timer::Msl2 | Timer::Giveup | Timer::Pto => Ok(()),
     }
 }
 
@@ -133,13 +136,16 @@ pub(crate) fn say_unrestarted(
     )
 }
 
-/// Why fast recovery may not begin, or not with these windows.
+/// Why fast recovery may not begin, or not with these windows, or may not be undone.
 pub(crate) fn recovery(
     out: &mut String,
     endpoint: &Endpoint,
     it: Recovery,
     moment: u64,
 ) -> Result<(), OutOfMemory> {
+    if it.change == RecoveryChange::IsUndone {
+        return out.push_str("no endpoint of the model detects a spurious recovery (RFC 3522, 5682)\n");
+    }
     let (profile, values) = (endpoint.control.profile, &endpoint.control.values);
     if !profile.counts_duplicates() {
         return out.push_str("in flight: 0; fast recovery begins only if something is in flight\n");

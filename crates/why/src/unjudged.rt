@@ -17,9 +17,12 @@ pub(crate) fn say_unjudged(out: &mut String, scene: &Scene, rule: Rule) -> Resul
     };
     let (before, after) = match header.version {
         Version::One | Version::Two | Version::Three => ("in version 4, the header line ", ""),
-        Version::Four | Version::FourHalf | Version::Five | Version::FiveHalf => {
-            ("", " in the header")
-        }
+        Version::Four
+        | Version::FourHalf
+        | Version::Five
+        | Version::FiveHalf
+        | Version::Six
+        | Version::SixHalf => { ("", " in the header") }
     };
     let condition = word_if(rule == Rule::OldData, " if an F step comes first");
     writeln!(

@@ -8,20 +8,23 @@ use Rattle.case_forms.specs.declared.steps.Label.{Label}
 use Rattle.case_forms.specs.declared.steps.Label.TheVariants.{L, D, M, T, K, R, F}
 use Rattle.case_forms.specs.declared.steps.Step.{Step}
 use Rattle.case_forms.specs.declared.steps.Witness.{Witness}
+use Rattle.case_forms.specs.declared.timer.RecoveryChange.{RecoveryChange}
+use Rattle.case_forms.specs.declared.timer.RecoveryChange.TheVariants.{Begins, IsUndone}
 use Rattle.case_forms.specs.declared.version.Version.{Version}
 use Rattle.case_forms.specs.declared.version.Version.TheVariants as versions
-use Rattle.case_forms.specs.Versions.{named_as, scales}
+use Rattle.case_forms.specs.Versions.{named_as, says_sender, scales}
 use Rattle.case_forms.specs.Witnesses.{IsShift}
 use Rattle.line_fields.specs.Folding.{AreSpelled}
 use Rattle.line_fields.specs.Hosts.{greatest_host, IsHost}
 use Rattle.line_fields.specs.Lines.{IsLine}
 use Rattle.witness.specs.FirstLine.{first_text}
-use Rattle.witness.specs.Labels.{IsEndpoint, IsEntry, IsLabel}
+use Rattle.witness.specs.Labels.{IsChange, IsEndpoint, IsEntry, IsLabel}
 use Rattle.witness.specs.Steps.{IsStepText}
 use Rattle.witness.specs.WitnessText.{number_after, IsWitnessText, seen_alone}
 
 -- what the texts of a half case may name, those of two hosts may name too
-module _ (half whole : Version) (more : greatest_host half ≤ greatest_host whole) (scaled : scales half ≡ scales whole) where
+module _ (half whole : Version) (more : greatest_host half ≤ greatest_host whole) (scaled : scales half ≡ scales whole)
+    (newer : says_sender half ≡ says_sender whole) where
   host_two : (h : Host) → IsHost half h → IsHost whole h
   host_two h fits = omega (arith, more, fits)
 
@@ -35,6 +38,10 @@ module _ (half whole : Version) (more : greatest_host half ≤ greatest_host who
   shift_two iss None fits = tt
   shift_two iss (Some shift) fits = (sym scaled ∙ fits.0, fits.1, fits.2)
 
+  change_two : (change : RecoveryChange) → IsChange half change → IsChange whole change
+  change_two Begins fits = tt
+  change_two IsUndone fits = sym newer ∙ fits
+
   label_two : (label : Label NamedLine) → IsLabel half label → IsLabel whole label
   label_two (L line) fits = fits
   label_two (D thread answer) fits = fits
@@ -43,7 +50,7 @@ module _ (half whole : Version) (more : greatest_host half ≤ greatest_host who
   label_two (T host line choice) fits = (entry_two host line fits.0, fits.1)
   label_two (K host line) fits = entry_two host line fits
   label_two (R host line) fits = entry_two host line fits
-  label_two (F host recovery) fits = (endpoint_two host recovery.lport recovery.rport fits.0, fits.1, fits.2)
+  label_two (F host recovery) fits = (endpoint_two host recovery.lport recovery.rport fits.0, fits.1, fits.2, change_two recovery.change fits.3)
 
   step_two : (number : ℕ) (s : Step) (raw : List ℕ) → IsStepText half number s raw → IsStepText whole number s raw
   step_two number s raw t =
@@ -72,9 +79,11 @@ alone_by versions.One steps text t = t
 alone_by versions.Two steps text t = t
 alone_by versions.Three steps text t = t
 alone_by versions.Four steps text t = t
-alone_by versions.FourHalf steps text t = text_two versions.FourHalf versions.Four (omega arith) refl refl steps text t
+alone_by versions.FourHalf steps text t = text_two versions.FourHalf versions.Four (omega arith) refl refl refl steps text t
 alone_by versions.Five steps text t = t
-alone_by versions.FiveHalf steps text t = text_two versions.FiveHalf versions.Five (omega arith) refl refl steps text t
+alone_by versions.FiveHalf steps text t = text_two versions.FiveHalf versions.Five (omega arith) refl refl refl steps text t
+alone_by versions.Six steps text t = t
+alone_by versions.SixHalf steps text t = text_two versions.SixHalf versions.Six (omega arith) refl refl refl steps text t
 
 pub text_alone : (w : Witness) (text : List ℕ) → IsWitnessText w text → IsWitnessText (seen_alone w) text
 text_alone w text t = alone_by w.version w.steps text t

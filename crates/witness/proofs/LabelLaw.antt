@@ -1,6 +1,6 @@
 -- The spelling of a label, both ways. A number may follow some forms, so a label is the last of its line.
-use Rattle.std.proofs.Common.{◌≡◌, ◌≤◌, ℕ, List, ◌++◌, Bool, true, false, Option, Some, None, Ok, refl, subst, arith}
-use Rattle.std.specs.Prelude.{IfSome, codes}
+use Rattle.std.proofs.Common.{◌≡◌, ◌≤◌, ℕ, List, [], ◌∷◌, ◌++◌, Bool, true, false, Option, Some, None, Ok, refl, subst, arith}
+use Rattle.std.specs.Prelude.{IfSome, if◌then◌else◌, codes}
 use Rattle.std.specs.Fmt.{decimal}
 use Rattle.std.specs.List.{AllByRecursion}
 use Rattle.seqno.specs.declared.word.Word.{Word}
@@ -12,15 +12,19 @@ use Rattle.case_forms.specs.declared.steps.Flags.{Flags}
 use Rattle.case_forms.specs.declared.named_line.NamedLine.{NamedLine}
 use Rattle.case_forms.specs.declared.steps.Label.{Label}
 use Rattle.case_forms.specs.declared.steps.Label.TheVariants.{L, D, M, T, K, R, F}
+use Rattle.case_forms.specs.declared.timer.RecoveryChange.{RecoveryChange}
+use Rattle.case_forms.specs.declared.timer.RecoveryChange.TheVariants.{Begins, IsUndone}
 use Rattle.case_forms.specs.declared.version.Version.{Version}
+use Rattle.case_forms.specs.Versions.{says_sender}
 use Rattle.case_forms.specs.Witnesses.{IsShift}
+use Rattle.line_fields.specs.Choice.{kind_named}
 use Rattle.line_fields.specs.Word.{Rest}
 use Rattle.line_fields.specs.Reading.{number_field}
 use Rattle.line_fields.specs.Reader.{texts, Any, Nothing, IsLastReader, IsReader}
 use Rattle.line_fields.specs.Spelling.{Piece, AreWritten, IsClean}
 use Rattle.line_fields.specs.Answers.{answer_pieces, IsAnswer}
 use Rattle.line_fields.specs.AnswerFields.{answer_field}
-use Rattle.line_fields.proofs.Choices.{AreNamed, IsBehind, reads_choice, is_known}
+use Rattle.line_fields.proofs.Choices.{AreNamedAmong, IsBehind, reads_choice_among, is_known}
 use Rattle.line_fields.proofs.AnswerLaw.{reads_answer, answer_clean}
 use Rattle.line_fields.proofs.HostLaw.{host_clean}
 use Rattle.line_fields.proofs.Written.{IsCleanPiece}
@@ -30,8 +34,8 @@ use Rattle.witness.specs.declared.labels.LabelWord.{LabelWord}
 use Rattle.witness.specs.declared.labels.LabelWord.TheVariants as words
 use Rattle.witness.specs.Flags.{flags_field}
 use Rattle.witness.specs.Parts.{endpoint_field, entry_field, bit_field, extras_field, Start, start_field}
-use Rattle.witness.specs.Labels.{label_name, all_label_words, bit_number, extras_pieces, AreExtras, iss_pieces, IsIss}
-use Rattle.witness.specs.Labels.{shift_pieces, IsStart, label_tail, label_word, label_pieces, IsLabel, IsSpelledLabel}
+use Rattle.witness.specs.Labels.{label_name, label_words_of, bit_number, extras_pieces, AreExtras, iss_pieces, IsIss}
+use Rattle.witness.specs.Labels.{shift_pieces, IsStart, label_tail, label_word, label_pieces, IsChange, IsLabel, IsSpelledLabel}
 use Rattle.witness.specs.LabelFields.{line_label, effect_label, segment_label, taking_label, dropping_label}
 use Rattle.witness.specs.LabelFields.{refusing_label, recovery_label, label_behind, label_field}
 use Rattle.witness.proofs.Made.{IsMade, reads_made, reads_part}
@@ -156,10 +160,11 @@ make_refusing y = R y.0 y.1
 reads_refusing : (v : Version) → IsReader (refusing_label v) (IsMade make_refusing (FitsEntry v) pieces_in)
 reads_refusing v = reads_made Any (entry_field v) make_refusing (FitsEntry v) pieces_in (reads_entry v)
 
--- ---- fast recovery
+-- ---- what becomes of a recovery
 
-abbrev make_recovery : At × (ℕ × ℕ) → Label NamedLine
-make_recovery y = F y.0.0 (record { lport = y.0.1; rport = y.0.2; cwnd = y.1.0; ssthresh = y.1.1 })
+abbrev make_recovery : RecoveryChange → At × (ℕ × ℕ) → Label NamedLine
+make_recovery change y =
+    F y.0.0 (record { change = change; lport = y.0.1; rport = y.0.2; cwnd = y.1.0; ssthresh = y.1.1 })
 
 abbrev FitsRecovery : Version → At × (ℕ × ℕ) → Type 0
 FitsRecovery v y = FitsEndpoint v y.0 × (IsWithin 0 4294967295 y.1.0 × IsWithin 0 4294967295 y.1.1)
@@ -167,25 +172,51 @@ FitsRecovery v y = FitsEndpoint v y.0 × (IsWithin 0 4294967295 y.1.0 × IsWithi
 abbrev windows_pieces : ℕ × ℕ → List Piece
 windows_pieces y = one_piece y.0 ++ one_piece y.1
 
-reads_recovery : (v : Version) → IsReader (recovery_label v) (IsMade make_recovery (FitsRecovery v) (λ y. pieces_at y.0 ++ windows_pieces y.1))
+reads_recovery : (v : Version) (change : RecoveryChange)
+    → IsReader (recovery_label v change) (IsMade (make_recovery change) (FitsRecovery v) (λ y. pieces_at y.0 ++ windows_pieces y.1))
 unfolding recovery_label
-reads_recovery v =
-    reads_part Any (endpoint_field v) (FitsEndpoint v) pieces_at _ make_recovery _ windows_pieces (reads_endpoint v)
+reads_recovery v change =
+    reads_part Any (endpoint_field v) (FitsEndpoint v) pieces_at _ (make_recovery change) _ windows_pieces (reads_endpoint v)
     (λ at. reads_part Any (number_field 0 4294967295) (IsWithin 0 4294967295) one_piece _
-    (λ x. make_recovery (at, x)) _ one_piece (reads_within 0 4294967295 (omega arith))
-    (λ cwnd. reads_made Any (number_field 0 4294967295) (λ ssthresh. make_recovery (at, (cwnd, ssthresh)))
+    (λ x. make_recovery change (at, x)) _ one_piece (reads_within 0 4294967295 (omega arith))
+    (λ cwnd. reads_made Any (number_field 0 4294967295) (λ ssthresh. make_recovery change (at, (cwnd, ssthresh)))
     (IsWithin 0 4294967295) one_piece (reads_within 0 4294967295 (omega arith))))
 
 -- ---- a label
 
-pub labels_named : AreNamed label_name all_label_words
-labels_named words.Line = refl
-labels_named words.Effect = refl
-labels_named words.Making = refl
-labels_named words.Taking = refl
-labels_named words.Dropping = refl
-labels_named words.Refusing = refl
-labels_named words.Recovery = refl
+-- a label of this version may begin with the word
+abbrev pub IsWord : Version → LabelWord → Type 0
+IsWord v (words.Recovery change) = IsChange v change
+IsWord v _ = Unit {0}
+
+abbrev with_newer : Bool → List LabelWord
+with_newer six =
+    words.Line ∷ words.Effect ∷ words.Making ∷ words.Taking ∷ words.Dropping ∷ words.Refusing ∷ words.Recovery Begins
+    ∷ (if six then words.Recovery IsUndone ∷ [] else [])
+
+undone_named : (six : Bool) → six ≡ true → kind_named label_name (with_newer six) (codes "U") ≡ Some (words.Recovery IsUndone)
+undone_named true is = refl
+undone_named false is = absurd cc
+
+label_named : (v : Version) (word : LabelWord) → IsWord v word → kind_named label_name (label_words_of v) (label_name word) ≡ Some word
+label_named v words.Line is = refl
+label_named v words.Effect is = refl
+label_named v words.Making is = refl
+label_named v words.Taking is = refl
+label_named v words.Dropping is = refl
+label_named v words.Refusing is = refl
+label_named v (words.Recovery Begins) is = refl
+label_named v (words.Recovery IsUndone) is = undone_named (says_sender v) is
+
+pub labels_named : (v : Version) → AreNamedAmong label_name (label_words_of v) (IsWord v)
+labels_named v = record {
+  named = label_named v;
+  only = (tt, (tt, (tt, (tt, (tt, (tt, (tt, newer (says_sender v) refl)))))));
+}
+  where
+    newer : (six : Bool) → says_sender v ≡ six → AllByRecursion (IsWord v) (if six then words.Recovery IsUndone ∷ [] else [])
+    newer true is = (is, tt)
+    newer false is = tt
 
 -- of each version
 module _ (v : Version) where
@@ -203,24 +234,33 @@ module _ (v : Version) where
       let own = is s.0 s.2 in
       is_known label_word label_tail (IsLabel v) k r x.1 x.0 (make s.0) p.0 s.1 own.0 own.1 (subst (λ (ps : List Piece). AreWritten ps p.0) own.2 s.3) p.2
 
-  behind_takes : (k : LabelWord) (r : Rest) (x : Label NamedLine × Rest) → label_behind v k r ≡ Ok x → Behind k r x
-  behind_takes words.Line r x e = takes_made words.Line make_line _ _ r x (reads_line.takes r x e) (λ y fits. ((fits.0.1, fits.1), refl, refl))
-  behind_takes words.Effect r x e = takes_made words.Effect make_effect _ _ r x (reads_effect.takes r x e) (λ y fits. ((fits.0.1, fits.1), refl, refl))
-  behind_takes words.Making r x e =
+  word_fits : (label : Label NamedLine) → IsLabel v label → IsWord v (label_word label)
+  word_fits (L line) fits = tt
+  word_fits (D thread answer) fits = tt
+  word_fits (M host plan) fits = tt
+  word_fits (T host line choice) fits = tt
+  word_fits (K host line) fits = tt
+  word_fits (R host line) fits = tt
+  word_fits (F host recovery) fits = fits.3
+
+  behind_takes : (k : LabelWord) (r : Rest) (x : Label NamedLine × Rest) → IsWord v k → label_behind v k r ≡ Ok x → Behind k r x
+  behind_takes words.Line r x known e = takes_made words.Line make_line _ _ r x (reads_line.takes r x e) (λ y fits. ((fits.0.1, fits.1), refl, refl))
+  behind_takes words.Effect r x known e = takes_made words.Effect make_effect _ _ r x (reads_effect.takes r x e) (λ y fits. ((fits.0.1, fits.1), refl, refl))
+  behind_takes words.Making r x known e =
       takes_made words.Making make_segment (FitsSegment v) all_pieces r x ((reads_segment v).takes r x e)
       (λ y fits. ((fits.0, fits.1.0.1, fits.1.1.0.1, fits.1.1.1.1.0.1, fits.1.1.1.1.1), refl, refl))
-  behind_takes words.Taking r x e =
+  behind_takes words.Taking r x known e =
       takes_made words.Taking make_taking (FitsTaking v) _ r x ((reads_taking v).takes r x e)
       (λ y fits. ((fits.0, fits.1.0.1), refl, refl))
-  behind_takes words.Dropping r x e =
+  behind_takes words.Dropping r x known e =
       takes_made words.Dropping make_dropping (FitsEntry v) pieces_in r x ((reads_dropping v).takes r x e)
       (λ y fits. (fits, refl, refl))
-  behind_takes words.Refusing r x e =
+  behind_takes words.Refusing r x known e =
       takes_made words.Refusing make_refusing (FitsEntry v) pieces_in r x ((reads_refusing v).takes r x e)
       (λ y fits. (fits, refl, refl))
-  behind_takes words.Recovery r x e =
-      takes_made words.Recovery make_recovery (FitsRecovery v) _ r x ((reads_recovery v).takes r x e)
-      (λ y fits. ((fits.0, fits.1.0.1, fits.1.1.1), refl, refl))
+  behind_takes (words.Recovery change) r x known e =
+      takes_made (words.Recovery change) (make_recovery change) (FitsRecovery v) _ r x ((reads_recovery v change).takes r x e)
+      (λ y fits. ((fits.0, fits.1.0.1, fits.1.1.1, known), refl, refl))
 
   abbrev Gets : Label NamedLine → Rest → List (List ℕ) → Type 0
   Gets label r more = (rest : Rest) × (label_behind v (label_word label) r ≡ Ok (label, rest)) × (texts rest ≡ more)
@@ -249,7 +289,7 @@ module _ (v : Version) where
   behind_again (K host line) r us more last fits w e = (reads_dropping v).again r (K host line) us more tt ((host, line), refl, fits, w) e
   behind_again (R host line) r us more last fits w e = (reads_refusing v).again r (R host line) us more tt ((host, line), refl, fits, w) e
   behind_again (F host recovery) r us more last fits w e =
-      (reads_recovery v).again r (F host recovery) us more tt (
+      (reads_recovery v recovery.change).again r (F host recovery) us more tt (
         ((host, recovery.lport, recovery.rport), (recovery.cwnd, recovery.ssthresh)),
         refl,
         (fits.0, ((omega arith, fits.1), (omega arith, fits.2))),
@@ -259,7 +299,9 @@ module _ (v : Version) where
   -- what is read is spelled so, and what is spelled so is read
   pub reads_label : IsLastReader (label_field v) (IsSpelledLabel v)
   unfolding label_field
-  reads_label = reads_choice Nothing label_name all_label_words labels_named (label_behind v) label_word label_tail (IsLabel v) behind_takes behind_again
+  reads_label =
+      reads_choice_among Nothing label_name (label_words_of v) (IsWord v) (labels_named v) (label_behind v) label_word label_tail
+      (IsLabel v) word_fits behind_takes behind_again
 
 -- ---- the fields of a label are clean
 
@@ -287,6 +329,10 @@ bit_clean false = IsClean-decimal 0 (omega arith)
 -- a number far below the greatest that is printed
 number_clean : (n : ℕ) → n ≤ 1000000000000000000 → IsClean (decimal n)
 number_clean n le = IsClean-decimal n (omega arith)
+
+change_clean : (change : RecoveryChange) → IsClean (label_name (words.Recovery change))
+change_clean Begins = clean_by (codes "F") refl
+change_clean IsUndone = clean_by (codes "U") refl
 
 pub label_clean : (v : Version) (label : Label NamedLine) → IsLabel v label → AllByRecursion IsCleanPiece (label_pieces label)
 label_clean v (L line) fits = (clean_by (codes "L") refl, (number_clean line.number (let h = fits.0 in omega arith), extras_clean line.extras fits.1))
@@ -342,7 +388,7 @@ label_clean v (F host recovery) fits =
     let to = ports.4 in
     let low = fits.1 in
     let high = fits.2 in (
-      clean_by (codes "F") refl,
+      change_clean recovery.change,
       (
         host_clean host,
         (

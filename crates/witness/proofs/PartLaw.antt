@@ -212,6 +212,8 @@ reads_shift versions.Four iss = reads_scaled versions.Four iss refl
 reads_shift versions.FourHalf iss = reads_scaled versions.FourHalf iss refl
 reads_shift versions.Five iss = reads_scaled versions.Five iss refl
 reads_shift versions.FiveHalf iss = reads_scaled versions.FiveHalf iss refl
+reads_shift versions.Six iss = reads_scaled versions.Six iss refl
+reads_shift versions.SixHalf iss = reads_scaled versions.SixHalf iss refl
 
 abbrev make_start : ℕ × Option ℕ → Start
 make_start y = with_shift (word y.0) y.1

@@ -20,20 +20,20 @@ use Rattle.line_fields.proofs.Readers.{no_words}
 use Rattle.line_fields.proofs.AnswerLaw.{reads_answer}
 use Rattle.witness.specs.declared.labels.LabelWord.{LabelWord}
 use Rattle.witness.specs.Flags.{flags_field}
-use Rattle.witness.specs.Labels.{label_name, all_label_words}
+use Rattle.witness.specs.Labels.{label_name, label_words_of}
 use Rattle.witness.specs.LabelFields.{effect_label, segment_label, label_behind, label_field}
 use Rattle.witness.specs.Parts.{endpoint_field, start_field}
 use Rattle.witness.specs.Plain.{IsPlaced}
 use Rattle.witness.specs.Steps.{step_of}
-use Rattle.witness.proofs.LabelLaw.{labels_named}
+use Rattle.witness.proofs.LabelLaw.{IsWord, labels_named}
 
 -- the first word of a label
-kind_is : (word : LabelWord) (before after : Rest) → IsNext (label_name word) before after
-    → kind_field label_name all_label_words before ≡ Ok (word, after)
-kind_is word before after is =
+kind_is : (v : Version) (word : LabelWord) (before after : Rest) → IsWord v word → IsNext (label_name word) before after
+    → kind_field label_name (label_words_of v) before ≡ Ok (word, after)
+kind_is v word before after known is =
     let next = is.next in
     let text = is.text in
-    let named = labels_named word in
+    let named = (labels_named v).named word known in
     rw (next, text, named) refl
 
 -- no field was taken before the next one
@@ -42,13 +42,13 @@ after {bytes} {a} {b} {last} same next = subst (λ (r : Rest). IsNext bytes r la
 
 -- a step, part by part
 pub step_is : (v : Version) (number moment stop : ℕ) (raw : List ℕ) (word : LabelWord) (label : Label NamedLine) (r behind_moment behind_word last : Rest)
-    → line_rest number raw ≡ Ok r → number_field 0 1000000000000000000 r ≡ Ok (moment, behind_moment)
+    → IsWord v word → line_rest number raw ≡ Ok r → number_field 0 1000000000000000000 r ≡ Ok (moment, behind_moment)
     → IsNext (label_name word) behind_moment behind_word
     → label_behind v word behind_word ≡ Ok (label, last) → last.words ≡ [] → stop ≡ r.stop
     → IsPlaced (Some (record { moment = moment; label = label; span = record { line = number; start = 0; stop = stop } })) (step_of v number raw)
 unfolding step_of label_field no_more
-step_is v number moment stop raw word label r behind_moment behind_word last line is next behind none ends =
-    let kind = kind_is word behind_moment behind_word next in
+step_is v number moment stop raw word label r behind_moment behind_word last known line is next behind none ends =
+    let kind = kind_is v word behind_moment behind_word known next in
     record {
       step = record { moment = moment; label = label; span = record { line = number; start = 0; stop = stop } };
       placed = refl;

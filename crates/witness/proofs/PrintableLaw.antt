@@ -18,6 +18,8 @@ use Rattle.case_forms.specs.declared.steps.Label.{Label}
 use Rattle.case_forms.specs.declared.steps.Label.TheVariants.{L, D, M, T, K, R, F}
 use Rattle.case_forms.specs.declared.steps.Step.{Step}
 use Rattle.case_forms.specs.declared.steps.Witness.{Witness}
+use Rattle.case_forms.specs.declared.timer.RecoveryChange.{RecoveryChange}
+use Rattle.case_forms.specs.declared.timer.RecoveryChange.TheVariants.{Begins, IsUndone}
 use Rattle.case_forms.specs.declared.version.Version.{Version}
 use Rattle.case_forms.specs.declared.version.Version.TheVariants as versions
 use Rattle.line_fields.specs.Answers.{IsAnswer}
@@ -26,8 +28,9 @@ use Rattle.line_fields.specs.Spelling.{Piece, printed_line, joined, piece_texts}
 use Rattle.line_fields.proofs.Printable.{IsShortPiece, room, short_decimal, pieces_short, pieces_written, written_bytes}
 use Rattle.line_fields.proofs.ShortAnswers.{host_short, answer_short, answer_room}
 use Rattle.witness.specs.FirstLine.{first_text}
+use Rattle.witness.specs.declared.labels.LabelWord.TheVariants as words
 use Rattle.witness.specs.Flags.{flags_text}
-use Rattle.witness.specs.Labels.{bit_number, extras_pieces, AreExtras, iss_pieces, IsIss, shift_pieces, IsStart, label_pieces, IsLabel}
+use Rattle.witness.specs.Labels.{bit_number, extras_pieces, AreExtras, iss_pieces, IsIss, shift_pieces, IsStart, label_name, label_pieces, IsLabel}
 use Rattle.witness.specs.Steps.{step_pieces, IsStepText}
 use Rattle.witness.specs.WitnessText.{number_after, IsWitnessText}
 use Rattle.witness.specs.Printed.{witness_text}
@@ -108,6 +111,10 @@ bit_short false = short_decimal 0 (omega arith)
 number_short : (n : ℕ) → n ≤ 1000000000000000000 → length (decimal n) ≤ 20
 number_short n le = short_decimal n (omega arith)
 
+change_short : (change : RecoveryChange) → length (label_name (words.Recovery change)) ≤ 20
+change_short Begins = omega arith
+change_short IsUndone = omega arith
+
 label_short : (v : Version) (label : Label NamedLine) → IsLabel v label → AllByRecursion IsShortPiece (label_pieces label)
 label_short v (L line) fits = (omega arith, (number_short line.number (let h = fits.0 in omega arith), extras_short line.extras fits.1))
 label_short v (D thread answer) fits = (omega arith, (number_short thread (let h = fits.0 in omega arith), answer_short answer fits.1))
@@ -162,7 +169,7 @@ label_short v (F host recovery) fits =
     let to = ports.4 in
     let low = fits.1 in
     let high = fits.2 in (
-      omega arith,
+      change_short recovery.change,
       (
         host_short host,
         (
@@ -216,6 +223,8 @@ first_short versions.Four = omega arith
 first_short versions.FourHalf = omega arith
 first_short versions.Five = omega arith
 first_short versions.FiveHalf = omega arith
+first_short versions.Six = omega arith
+first_short versions.SixHalf = omega arith
 
 pub is_printed : (w : Witness) → IsPrintableWitness w → IsWitnessText (with_columns w) (witness_text w)
 is_printed w p = record {
@@ -289,7 +298,7 @@ label_within v (M host plan) p shift bits =
 label_within v (T host line choice) p shift bits = (p, bits)
 label_within v (K host line) p shift bits = p
 label_within v (R host line) p shift bits = p
-label_within v (F host x) p shift bits = ((p.0, p.1, bits.0, p.2, bits.1), bits.2, bits.3)
+label_within v (F host x) p shift bits = ((p.0, p.1, bits.0, p.2, bits.1), bits.2, bits.3, p.3)
 
 steps_print : (v : Version) (steps : List Step) → AllByRecursion (IsWithinStep v) steps → TellShifts v steps
     → AllByRecursion IsInMemory steps → AllByRecursion (IsPrintableStep v) steps

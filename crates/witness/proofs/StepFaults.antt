@@ -12,6 +12,7 @@ use Rattle.case_forms.specs.declared.steps.Flags.{Flags}
 use Rattle.case_forms.specs.declared.steps.Label.{Label}
 use Rattle.case_forms.specs.declared.steps.Label.TheVariants.{L, D, M, T, K, R, F}
 use Rattle.case_forms.specs.declared.steps.Step.{Step}
+use Rattle.case_forms.specs.declared.timer.RecoveryChange.{RecoveryChange}
 use Rattle.case_forms.specs.declared.version.Version.{Version}
 use Rattle.line_fields.specs.AnswerFields.{answer_field}
 use Rattle.line_fields.specs.AnswerForms.{answer_last}
@@ -27,7 +28,7 @@ use Rattle.line_fields.proofs.FieldFaults.{failing, first_fault, Onward, Agrees,
 use Rattle.line_fields.proofs.LineFaults.{faults_of}
 use Rattle.witness.specs.Flags.{no_flags, letters_named, flags_value, flags_field}
 use Rattle.witness.specs.LabelFields.{line_label, effect_label, segment_label, taking_label, recovery_label, label_behind, label_field}
-use Rattle.witness.specs.Labels.{label_name, all_label_words}
+use Rattle.witness.specs.Labels.{label_name, label_words_of}
 use Rattle.witness.specs.Parts.{endpoint_field, entry_field, bit_field, first_field, second_field, extras_field}
 use Rattle.witness.specs.Parts.{given_shift, given_start, shift_field, start_field, Start}
 use Rattle.witness.specs.StepForms.{lettered, word32, bit, host, endpoint, shift_form, start_form, label_form, step_form, IsStepFault}
@@ -185,16 +186,18 @@ taking_then v f on r =
     ∙ bit_then End _ (λ sample rest.
     on (T entry.0 entry.1 (record { cwnd = cwnd; keep = keep; sample = sample })) rest) more) more) more) r
 
-recovery_then : {Y : Type 0} (v : Version) (f : Label NamedLine × Rest → Result Y TextFault) → Onward End f → (r : Rest)
-    → failing (recovery_label v r >>= f) ≡ first_fault (label_form v words.Recovery) r
+recovery_then : {Y : Type 0} (v : Version) (change : RecoveryChange) (f : Label NamedLine × Rest → Result Y TextFault)
+    → Onward End f → (r : Rest)
+    → failing (recovery_label v change r >>= f) ≡ first_fault (label_form v (words.Recovery change)) r
 unfolding recovery_label
-recovery_then v f on r =
+recovery_then v change f on r =
     assoc (endpoint_field v r) _ f
     ∙ endpoint_then v (word32 (word32 End)) _
     (λ at more. assoc (number_field 0 4294967295 more) _ f
     ∙ number_then 0 4294967295 (word32 End) _
     (λ cwnd more. assoc (number_field 0 4294967295 more) _ f ∙ number_then 0 4294967295 End _
-    (λ ssthresh rest. on (F at.0 (record { lport = at.1; rport = at.2; cwnd = cwnd; ssthresh = ssthresh })) rest) more) more) r
+    (λ ssthresh rest.
+    on (F at.0 (record { change = change; lport = at.1; rport = at.2; cwnd = cwnd; ssthresh = ssthresh })) rest) more) more) r
 
 label_then : {Y : Type 0} (v : Version) (f : Label NamedLine × Rest → Result Y TextFault) → Onward End f
     → (k : LabelWord) (r : Rest) → failing (label_behind v k r >>= f) ≡ first_fault (label_form v k) r
@@ -208,15 +211,15 @@ label_then v f on words.Dropping r =
 label_then v f on words.Refusing r =
     assoc (entry_field v r) (λ entry. Ok (R entry.0.0 entry.0.1, entry.1)) f
     ∙ entry_then v End (λ entry. f (R entry.0.0 entry.0.1, entry.1)) (λ x rest. on (R x.0 x.1) rest) r
-label_then v f on words.Recovery r = recovery_then v f on r
+label_then v f on (words.Recovery change) r = recovery_then v change f on r
 
 -- steps
 fields_then : (v : Version) (r : Rest) → failing (step_fields v r) ≡ first_fault (step_form v) r
 unfolding label_field
 fields_then v r =
-    number_then 0 1000000000000000000 (choice label_name all_label_words (label_form v)) _
-    (λ moment more. assoc (kind_field label_name all_label_words more) (λ word. label_behind v word.0 word.1) _
-    ∙ choice_then label_name all_label_words (label_form v) _
+    number_then 0 1000000000000000000 (choice label_name (label_words_of v) (label_form v)) _
+    (λ moment more. assoc (kind_field label_name (label_words_of v) more) (λ word. label_behind v word.0 word.1) _
+    ∙ choice_then label_name (label_words_of v) (label_form v) _
     (λ k rest. label_then v (λ label. no_more label.1 >>= λ end. Ok (moment, label.0))
     (λ label rest. end_then (moment, label) rest) k rest) more) r
 

@@ -1,7 +1,8 @@
 -- A text is read exactly where it stands for a witness.
-use Rattle.std.proofs.Common.{◌≡◌, ℕ, List, [], ◌∷◌, Bool, true, Result, Ok, Err, refl, sym, ap, subst, ◌∙◌}
+use Rattle.std.proofs.Common.{◌≡◌, ℕ, List, [], ◌∷◌, ◌++◌, Bool, true, false, Result, Ok, Err, refl, sym, ap, subst, ◌∙◌, get_or}
 use Rattle.std.specs.Prelude.{codes, IfOk, IsTrue, ◌↔◌}
 use Rattle.std.specs.Str.{bytes_eq}
+use Rattle.std.proofs.lemmas.Bool.{and_parts, false_from_ne_true}
 use Rattle.std.proofs.lemmas.Slice.Eq.{bytes_eq-Decides}
 use Rattle.std.specs.List.{concat, AllByRecursion}
 use Rattle.bstr.specs.Text.{lines_of, without_terminator}
@@ -22,7 +23,7 @@ use Rattle.line_fields.proofs.Clean.{clean_by, joined_no_return}
 use Rattle.line_fields.proofs.Endings.{ending_again, ending_taken}
 use Rattle.line_fields.proofs.Texts.{lines_of-concat}
 use Rattle.line_fields.proofs.Loop.{spelled_takes, spelled_again, spelled_raws}
-use Rattle.witness.specs.FirstLine.{first_text}
+use Rattle.witness.specs.FirstLine.{first_text, begins_witness}
 use Rattle.witness.specs.Steps.{IsStepText, step_of}
 use Rattle.witness.specs.WitnessText.{number_after, IsWitnessText, seen_alone, witness_in, witness_for, version_named, witness_of}
 use Rattle.witness.proofs.StepLaw.{reads_step, is_step_raw}
@@ -77,6 +78,8 @@ first_words versions.Four = codes "witness" ∷ codes "4" ∷ []
 first_words versions.FourHalf = codes "witness" ∷ codes "4" ∷ []
 first_words versions.Five = codes "witness" ∷ codes "5" ∷ []
 first_words versions.FiveHalf = codes "witness" ∷ codes "5" ∷ []
+first_words versions.Six = codes "witness" ∷ codes "6" ∷ []
+first_words versions.SixHalf = codes "witness" ∷ codes "6" ∷ []
 
 words_joined : (v : Version) → joined (first_words v) ≡ first_text v
 words_joined versions.One = refl
@@ -86,6 +89,8 @@ words_joined versions.Four = refl
 words_joined versions.FourHalf = refl
 words_joined versions.Five = refl
 words_joined versions.FiveHalf = refl
+words_joined versions.Six = refl
+words_joined versions.SixHalf = refl
 
 words_clean : (v : Version) → AllByRecursion IsClean (first_words v)
 words_clean versions.One = (clean_by (codes "witness") refl, (clean_by (codes "1") refl, tt))
@@ -95,6 +100,8 @@ words_clean versions.Four = (clean_by (codes "witness") refl, (clean_by (codes "
 words_clean versions.FourHalf = (clean_by (codes "witness") refl, (clean_by (codes "4") refl, tt))
 words_clean versions.Five = (clean_by (codes "witness") refl, (clean_by (codes "5") refl, tt))
 words_clean versions.FiveHalf = (clean_by (codes "witness") refl, (clean_by (codes "5") refl, tt))
+words_clean versions.Six = (clean_by (codes "witness") refl, (clean_by (codes "6") refl, tt))
+words_clean versions.SixHalf = (clean_by (codes "witness") refl, (clean_by (codes "6") refl, tt))
 
 pub first_ends : (v : Version) → NoReturn (first_text v)
 first_ends v = subst NoReturn (words_joined v) (joined_no_return (first_words v) (words_clean v))
@@ -127,13 +134,15 @@ named_text versions.Four raw raws text ended = rw (text, ended) refl
 named_text versions.FourHalf raw raws text ended = rw (text, ended) refl
 named_text versions.Five raw raws text ended = rw (text, ended) refl
 named_text versions.FiveHalf raw raws text ended = rw (text, ended) refl
+named_text versions.Six raw raws text ended = rw (text, ended) refl
+named_text versions.SixHalf raw raws text ended = rw (text, ended) refl
 
 named_by : (v : Version) (raw : List ℕ) (raws : List (List ℕ)) → IsLine 1 (first_text v) raw → version_named (raw ∷ raws) ≡ named_as v
 named_by v raw raws line =
     let own = ending_again raw (first_text v) (first_ends v) line.ends in
     named_text v raw raws own.0 own.1
 
--- it is read whichever version it is of; one of a half case of version 4 or 5 as one of two hosts
+-- it is read whichever version it is of; one of a half case of version 4 to 6 as one of two hosts
 pub some_again : (w : Witness) (text : List ℕ) → IsWitnessText w text → witness_of text ≡ Ok (seen_alone w)
 some_again w text t =
     let version = ap version_named (text_lines w text t) ∙ named_by w.version t.first t.raws t.begins in
@@ -150,3 +159,23 @@ begins_exactly v raw text begins ended without same = (there, back)
 
     back : Ends raw (first_text v) → IsTrue begins
     back ends = same ∙ (bytes_eq-Decides text (first_text v)).1 (without ∙ (ending_again raw (first_text v) (first_ends v) ends).0)
+
+begins_w : (v : Version) (end : List ℕ) → get_or (first_text v ++ end) 0 0 ≡ 119
+begins_w versions.One end = refl
+begins_w versions.Two end = refl
+begins_w versions.Three end = refl
+begins_w versions.Four end = refl
+begins_w versions.FourHalf end = refl
+begins_w versions.Five end = refl
+begins_w versions.FiveHalf end = refl
+begins_w versions.Six end = refl
+begins_w versions.SixHalf end = refl
+
+-- a line with another first byte isn't that line
+pub other_begins : (v : Version) (raw : List ℕ) → (get_or raw 0 0 ≡ 119 → ⊥) → begins_witness v raw ≡ false
+other_begins v raw other = false_from_ne_true (begins_witness v raw) (λ is.
+    let parts = and_parts _ _ is in
+    let text : without_terminator raw ≡ first_text v = (bytes_eq-Decides (without_terminator raw) (first_text v)).0 parts.1 in
+    let ends = ending_taken raw parts.0 in
+    let split : raw ≡ first_text v ++ ends.0 = ends.2 ∙ ap (λ (t : List ℕ). t ++ ends.0) text in
+    other (ap (λ (t : List ℕ). get_or t 0 0) split ∙ begins_w v ends.0))

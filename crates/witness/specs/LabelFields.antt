@@ -2,6 +2,7 @@
 use Rattle.std.specs.Prelude.{Result, Ok}
 use Rattle.case_forms.specs.declared.named_line.NamedLine.{NamedLine}
 use Rattle.case_forms.specs.declared.steps.Label.{Label}
+use Rattle.case_forms.specs.declared.timer.RecoveryChange.{RecoveryChange}
 use Rattle.case_forms.specs.declared.version.Version.{Version}
 use Rattle.case_forms.specs.declared.steps.Label.TheVariants.{L, D, M, T, K, R, F}
 use Rattle.line_fields.specs.declared.fault.TextFault.{TextFault}
@@ -13,7 +14,7 @@ use Rattle.witness.specs.declared.labels.LabelWord.{LabelWord}
 use Rattle.witness.specs.declared.labels.LabelWord.TheVariants as words
 use Rattle.witness.specs.Flags.{flags_field}
 use Rattle.witness.specs.Parts.{endpoint_field, entry_field, bit_field, extras_field, start_field}
-use Rattle.witness.specs.Labels.{label_name, all_label_words}
+use Rattle.witness.specs.Labels.{label_name, label_words_of}
 
 -- the number of a line, and the extra numbers
 unfoldable pub line_label : Rest → Result (Label NamedLine × Rest) TextFault
@@ -74,13 +75,22 @@ refusing_label v r = do
   entry ← entry_field v r
   Ok (R entry.0.0 entry.0.1, entry.1)
 
--- an endpoint, its congestion window and its slow start threshold
-unfoldable pub recovery_label : Version → Rest → Result (Label NamedLine × Rest) TextFault
-recovery_label v r = do
+-- an endpoint, its congestion window and its slow start threshold when this becomes of its recovery
+unfoldable pub recovery_label : Version → RecoveryChange → Rest → Result (Label NamedLine × Rest) TextFault
+recovery_label v change r = do
   at ← endpoint_field v r
   cwnd ← number_field 0 4294967295 at.1
   ssthresh ← number_field 0 4294967295 cwnd.1
-  Ok (F at.0.0 (record { lport = at.0.1; rport = at.0.2; cwnd = cwnd.0; ssthresh = ssthresh.0 }), ssthresh.1)
+  Ok (
+    F at.0.0 (record {
+      change = change;
+      lport = at.0.1;
+      rport = at.0.2;
+      cwnd = cwnd.0;
+      ssthresh = ssthresh.0;
+    }),
+    ssthresh.1,
+  )
 
 -- what follows the first word
 abbrev pub label_behind : Version → LabelWord → Rest → Result (Label NamedLine × Rest) TextFault
@@ -90,8 +100,8 @@ label_behind v words.Making r = segment_label v r
 label_behind v words.Taking r = taking_label v r
 label_behind v words.Dropping r = dropping_label v r
 label_behind v words.Refusing r = refusing_label v r
-label_behind v words.Recovery r = recovery_label v r
+label_behind v (words.Recovery change) r = recovery_label v change r
 
 -- a label
 unfoldable pub label_field : Version → Rest → Result (Label NamedLine × Rest) TextFault
-label_field v r = kind_field label_name all_label_words r >>= λ word. label_behind v word.0 word.1
+label_field v r = kind_field label_name (label_words_of v) r >>= λ word. label_behind v word.0 word.1

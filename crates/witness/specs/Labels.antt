@@ -1,5 +1,5 @@
 -- Labels, as a witness spells them.
-use Rattle.std.specs.Prelude.{◌≤◌, ℕ, Bool, true, false, List, [], ◌∷◌, ◌++◌, Option, Some, None, IfSome, codes}
+use Rattle.std.specs.Prelude.{◌≡◌, ◌≤◌, ℕ, Bool, true, false, if◌then◌else◌, List, [], ◌∷◌, ◌++◌, Option, Some, None, IfSome, codes}
 use Rattle.seqno.specs.declared.word.Word.{Word}
 use Rattle.case_forms.specs.declared.calls.Host.{Host}
 use Rattle.case_forms.specs.declared.named_line.Extras.{Extras}
@@ -8,7 +8,10 @@ use Rattle.case_forms.specs.declared.named_line.NamedLine.{NamedLine}
 use Rattle.case_forms.specs.declared.steps.Label.{Label}
 use Rattle.case_forms.specs.declared.steps.Label.TheVariants.{L, D, M, T, K, R, F}
 use Rattle.case_forms.specs.declared.steps.SegmentPlan.{SegmentPlan}
+use Rattle.case_forms.specs.declared.timer.RecoveryChange.{RecoveryChange}
+use Rattle.case_forms.specs.declared.timer.RecoveryChange.TheVariants.{Begins, IsUndone}
 use Rattle.case_forms.specs.declared.version.Version.{Version}
+use Rattle.case_forms.specs.Versions.{says_sender}
 use Rattle.case_forms.specs.Witnesses.{IsShift}
 use Rattle.line_fields.specs.Hosts.{host_number, IsHost}
 use Rattle.line_fields.specs.Spelling.{Piece, plain, number, AreWritten}
@@ -25,12 +28,19 @@ label_name words.Making = codes "M"
 label_name words.Taking = codes "T"
 label_name words.Dropping = codes "K"
 label_name words.Refusing = codes "R"
-label_name words.Recovery = codes "F"
+label_name (words.Recovery Begins) = codes "F"
+label_name (words.Recovery IsUndone) = codes "U"
 
--- all first words of labels
-abbrev pub all_label_words : List LabelWord
-all_label_words =
-    words.Line ∷ words.Effect ∷ words.Making ∷ words.Taking ∷ words.Dropping ∷ words.Refusing ∷ words.Recovery ∷ []
+-- the first words that labels of this version may have: `U` from version 6 on
+abbrev pub label_words_of : Version → List LabelWord
+label_words_of v =
+    words.Line ∷ words.Effect ∷ words.Making ∷ words.Taking ∷ words.Dropping ∷ words.Refusing ∷ words.Recovery Begins
+    ∷ (if says_sender v then words.Recovery IsUndone ∷ [] else [])
+
+-- a label of this version may say that this becomes of a recovery
+abbrev pub IsChange : Version → RecoveryChange → Type 0
+IsChange v Begins = Unit {0}
+IsChange v IsUndone = says_sender v ≡ true
 
 -- the number of yes or no
 abbrev pub bit_number : Bool → ℕ
@@ -111,7 +121,7 @@ label_word (M host plan) = words.Making
 label_word (T host line choice) = words.Taking
 label_word (K host line) = words.Dropping
 label_word (R host line) = words.Refusing
-label_word (F host recovery) = words.Recovery
+label_word (F host recovery) = words.Recovery recovery.change
 
 -- the fields of a label
 abbrev pub label_pieces : Label NamedLine → List Piece
@@ -129,7 +139,8 @@ IsLabel v (T host line choice) = IsEntry v host line × (choice.cwnd ≤ 4294967
 IsLabel v (K host line) = IsEntry v host line
 IsLabel v (R host line) = IsEntry v host line
 IsLabel v (F host recovery) =
-    IsEndpoint v host recovery.lport recovery.rport × (recovery.cwnd ≤ 4294967295) × (recovery.ssthresh ≤ 4294967295)
+    IsEndpoint v host recovery.lport recovery.rport × (recovery.cwnd ≤ 4294967295)
+    × (recovery.ssthresh ≤ 4294967295) × IsChange v recovery.change
 
 -- these fields spell the label
 abbrev pub IsSpelledLabel : Version → Label NamedLine → List (List ℕ) → Type 0

@@ -12,7 +12,7 @@ use Rattle.line_fields.specs.Hosts.{IsHost}
 use Rattle.line_fields.specs.Lines.{whole_line}
 use Rattle.line_fields.specs.Spelling.{IsBytePiece, joined, piece_texts}
 use Rattle.case_forms.specs.declared.version.Version.{Version}
-use Rattle.witness.specs.Labels.{label_pieces, AreExtras, IsEntry, IsLabel}
+use Rattle.witness.specs.Labels.{label_pieces, AreExtras, IsChange, IsEntry, IsLabel}
 use Rattle.witness.specs.Steps.{step_pieces}
 
 -- the bytes of a step are bytes, as those of each step in memory are
@@ -46,7 +46,7 @@ pub record IsInMemory (s : Step) : Type 0 where
   pub bytes : HasBytes s
 
 -- the limits of a label that no type ensures: hosts of this version, ports from 1 on, lines that a trace may have,
--- positions, and how many bytes
+-- positions, how many bytes, and what may become of a recovery in this version
 abbrev pub IsWithinLabel : Version → Label NamedLine → Type 0
 IsWithinLabel v (L line) = Has32 line.number
 IsWithinLabel v (D thread answer) = IsTextAnswer answer
@@ -55,9 +55,9 @@ IsWithinLabel v (M host plan) =
 IsWithinLabel v (T host line choice) = IsEntry v host line
 IsWithinLabel v (K host line) = IsEntry v host line
 IsWithinLabel v (R host line) = IsEntry v host line
-IsWithinLabel v (F host x) = IsHost v host × (1 ≤ x.lport) × (1 ≤ x.rport)
+IsWithinLabel v (F host x) = IsHost v host × (1 ≤ x.lport) × (1 ≤ x.rport) × IsChange v x.change
 
--- and of a step, and of a witness: only numbers
+-- and of a step, and of a witness
 pub record IsWithinStep (v : Version) (s : Step) : Type 0 where
   pub moment : s.moment ≤ 1000000000000000000
   pub label : IsWithinLabel v s.label

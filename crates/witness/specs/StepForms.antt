@@ -12,7 +12,7 @@ use Rattle.line_fields.specs.Lines.{IsLine}
 use Rattle.line_fields.specs.declared.fault.TextFault.{TextFault}
 use Rattle.witness.specs.FirstLine.{first_text}
 use Rattle.witness.specs.Flags.{letters_named}
-use Rattle.witness.specs.Labels.{label_name, all_label_words}
+use Rattle.witness.specs.Labels.{label_name, label_words_of}
 use Rattle.witness.specs.Steps.{IsStepText}
 use Rattle.witness.specs.WitnessText.{number_after}
 use Rattle.witness.specs.declared.labels.LabelWord.{LabelWord}
@@ -53,11 +53,11 @@ label_form v words.Making =
 label_form v words.Taking = host v (word32 (word32 (bit (bit End))))
 label_form v words.Dropping = host v (word32 End)
 label_form v words.Refusing = host v (word32 End)
-label_form v words.Recovery = endpoint v (word32 (word32 End))
+label_form v (words.Recovery change) = endpoint v (word32 (word32 End))
 
 -- a step
 abbrev pub step_form : Version → Form
-step_form v = then_form (numeric 0 1000000000000000000) (choice label_name all_label_words (label_form v))
+step_form v = then_form (numeric 0 1000000000000000000) (choice label_name (label_words_of v) (label_form v))
 
 -- the first fault of the step in the line with that number
 abbrev pub IsStepFault : Version → ℕ → List ℕ → TextFault → Type 0

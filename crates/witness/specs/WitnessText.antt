@@ -5,7 +5,7 @@ use Rattle.bstr.specs.Text.{lines_of}
 use Rattle.case_forms.specs.declared.steps.Step.{Step}
 use Rattle.case_forms.specs.declared.steps.Witness.{Witness}
 use Rattle.case_forms.specs.declared.version.Version.{Version}
-use Rattle.case_forms.specs.declared.version.Version.TheVariants.{One, Two, Three, Four, Five}
+use Rattle.case_forms.specs.declared.version.Version.TheVariants.{One, Two, Three, Four, Five, Six}
 use Rattle.case_forms.specs.Versions.{named_as}
 use Rattle.line_fields.specs.declared.fault.TextFault.{TextFault}
 use Rattle.line_fields.specs.Reading.{◌>>=◌}
@@ -38,7 +38,7 @@ witness_in v raws = do
 unfoldable pub witness_for : Version → List ℕ → Result Witness TextFault
 witness_for v text = witness_in v (lines_of text)
 
--- the version in the first of these lines, for versions 4 and 5 that of two hosts; if it names none, the text is read
+-- the version in the first of these lines, for versions 4 to 6 that of two hosts; if it names none, the text is read
 -- for version 1, and its first line is the fault
 abbrev pub version_named : List (List ℕ) → Version
 version_named [] = One
@@ -47,9 +47,10 @@ version_named (raw ∷ raws) =
     else if begins_witness Three raw then Three
     else if begins_witness Four raw then Four
     else if begins_witness Five raw then Five
+    else if begins_witness Six raw then Six
     else One
 
--- a witness as its text alone shows it: one of version 4 or 5 counts as one of two hosts
+-- a witness as its text alone shows it: one of version 4 to 6 counts as one of two hosts
 abbrev pub seen_alone : Witness → Witness
 seen_alone w = record w { version = named_as w.version }
 

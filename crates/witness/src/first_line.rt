@@ -8,6 +8,7 @@ use case_forms::Version;
 use line_fields::{first_text, without_line_end};
 
 /// Whether a line, given with its end, is exactly the first line of a witness of this version, ended with LF or CR LF.
+#[tactic(auto, using(crate::proofs::TextLaw::other_begins))]
 #[inline(always)]
 pub fn begins_witness(version: Version, raw: &[u8]) -> bool
     ensures value { result ≡ begins_witness version raw.now }

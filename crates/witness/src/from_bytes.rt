@@ -95,7 +95,7 @@ fn read(alloc: Global, version: Version, text: &[u8]) -> Result<Witness, TextFau
     Ok(Witness { version, steps })
 }
 
-// The version in the first line of a text, for versions 4 and 5 the one with two hosts; version 1 if it names none.
+// The version in the first line of a text, for versions 4 to 6 the one with two hosts; version 1 if it names none.
 fn version_named(text: &[u8]) -> Version
     ensures { result ≡ version_named (lines_of text.now) }
 {
@@ -104,6 +104,7 @@ fn version_named(text: &[u8]) -> Version
         Some(raw) if begins_witness(Version::Three, raw) => Version::Three,
         Some(raw) if begins_witness(Version::Four, raw) => Version::Four,
         Some(raw) if begins_witness(Version::Five, raw) => Version::Five,
+        Some(raw) if begins_witness(Version::Six, raw) => Version::Six,
         _ => Version::One,
     }
 }
@@ -111,11 +112,11 @@ fn version_named(text: &[u8]) -> Version
 /// The witness that a text spells, whatever its version, or the text's first fault. A first line that names no version
 /// is Header. Falling moments are not a fault.
 ///
-/// A text of version 4 or 5 is read in the forms of two hosts: only its trace says whether only host 0 was recorded.
+/// A text of version 4 to 6 is read in the forms of two hosts: only its trace says whether only host 0 was recorded.
 pub fn read_witness(alloc: Global, text: &[u8]) -> Result<Witness, TextFault>
     // What is read is spelled so.
     ensures found { IfOk result (λ w. IsWitnessText w text.now) }
-    // What is spelled so is read, unless memory runs out; of versions 4 and 5 in the forms of two hosts.
+    // What is spelled so is read, unless memory runs out; of versions 4 to 6 in the forms of two hosts.
     ensures only { (w : Witness) → IsWitnessText w text.now → Gives (λ w. w) result (Ok (seen_alone w)) }
     // It keeps to the limits on the count of its steps, on their positions and on their shifts.
     ensures limits { IfOk result IsWitness }

@@ -3,13 +3,15 @@
 ghost use Rattle.std.specs.Prelude.{◌≡◌};
 ghost use Rattle.line_fields.specs.Reading.{Gives};
 ghost use Rattle.line_fields.specs.Choice.{kind_named, kind_field};
-ghost use Rattle.witness.specs.Labels.{label_name, all_label_words};
+ghost use Rattle.witness.specs.Labels.{label_name, label_words_of};
 ghost use Rattle.witness.specs.LabelFields.{line_label, effect_label, segment_label, taking_label, recovery_label};
 ghost use Rattle.witness.specs.LabelFields.{label_field};
 
 use crate::flags::flags;
 use crate::parts::{bit, endpoint, entry, extras, start};
-use case_forms::{GREATEST_POSITION, Label, NamedLine, Recovery, SegmentPlan, TakeChoice, Version};
+use case_forms::{
+    GREATEST_POSITION, Label, NamedLine, Recovery, RecoveryChange, SegmentPlan, TakeChoice, Version,
+};
 use line_fields::{FaultKind, Fields, TextFault, Token, answer};
 use std::alloc::Global;
 
@@ -28,12 +30,12 @@ enum LabelWord {
     Taking,
     Dropping,
     Refusing,
-    Recovery,
+    Recovery(RecoveryChange),
 }
 
-// The first word of a label that a field spells.
-fn label_word_named(name: &Token) -> Option<LabelWord>
-    ensures { result ≡ kind_named label_name all_label_words name.now.text.now }
+// The first word of a label that a field spells in this version.
+fn label_word_named(version: Version, name: &Token) -> Option<LabelWord>
+    ensures { result ≡ kind_named label_name (label_words_of version) name.now.text.now }
 {
     if name.is("L") {
         Some(LabelWord::Line)
@@ -48,18 +50,20 @@ fn label_word_named(name: &Token) -> Option<LabelWord>
     } else if name.is("R") {
         Some(LabelWord::Refusing)
     } else if name.is("F") {
-        Some(LabelWord::Recovery)
+        Some(LabelWord::Recovery(RecoveryChange::Begins))
+    } else if version.says_sender() && name.is("U") {
+        Some(LabelWord::Recovery(RecoveryChange::IsUndone))
     } else {
         None
     }
 }
 
 // The next field, which is the first word of a label.
-fn label_word(fields: &mut Fields) -> Result<LabelWord, TextFault>
-    ensures { Gives (λ word. (word, fields.new)) result (kind_field label_name all_label_words fields.old) }
+fn label_word(version: Version, fields: &mut Fields) -> Result<LabelWord, TextFault>
+    ensures { Gives (λ word. (word, fields.new)) result (kind_field label_name (label_words_of version) fields.old) }
 {
     let name = fields.next()?;
-    match label_word_named(&name) {
+    match label_word_named(version, &name) {
         Some(word) => Ok(word),
         None => Err(name.fault(FaultKind::Field)),
     }
@@ -123,15 +127,20 @@ fn taking_label(version: Version, fields: &mut Fields) -> Result<Label<NamedLine
     Ok(Label::T { host, line, choice })
 }
 
-// An endpoint, its congestion window and its slow start threshold.
+// An endpoint, its congestion window and its slow start threshold when this becomes of its recovery.
 #[tactic(auto, unfolding(crate::specs::LabelFields::recovery_label))]
-fn recovery_label(version: Version, fields: &mut Fields) -> Result<Label<NamedLine>, TextFault>
-    ensures { Gives (λ label. (label, fields.new)) result (recovery_label version fields.old) }
+fn recovery_label(
+    version: Version,
+    change: RecoveryChange,
+    fields: &mut Fields,
+) -> Result<Label<NamedLine>, TextFault>
+    ensures { Gives (λ label. (label, fields.new)) result (recovery_label version change fields.old) }
 {
     let (host, lport, rport) = endpoint(version, fields)?;
     let cwnd = fields.number32()?;
     let ssthresh = fields.number32()?;
     let recovery = Recovery {
+        change,
         lport,
         rport,
         cwnd,
@@ -149,7 +158,7 @@ pub(crate) fn label(
 ) -> Result<Label<NamedLine>, TextFault>
     ensures { Gives (λ label. (label, fields.new)) result (label_field version fields.old) }
 {
-    match label_word(fields)? {
+    match label_word(version, fields)? {
         LabelWord::Line => line_label(fields),
         LabelWord::Effect => effect_label(alloc, fields),
         LabelWord::Making => segment_label(version, fields),
@@ -162,6 +171,6 @@ pub(crate) fn label(
             let (host, line) = entry(version, fields)?;
             Ok(Label::R { host, line })
         }
-        LabelWord::Recovery => recovery_label(version, fields),
+        LabelWord::Recovery(change) => recovery_label(version, change, fields),
     }
 }

@@ -6,14 +6,17 @@ ghost use Rattle.case_forms.specs.Limits.{Has16, Has32, HasAnswerBits, HasPlanBi
 ghost use Rattle.case_forms.specs.declared.steps.Witness.{Witness};
 ghost use Rattle.line_fields.specs.Spelling.{IsBytePiece, number, printed_behind, printed_line};
 ghost use Rattle.witness.specs.Labels.{AreExtras, bit_number, extras_pieces, iss_pieces, shift_pieces, segment_pieces};
-ghost use Rattle.witness.specs.Labels.{endpoint_pieces, entry_pieces, label_pieces};
+ghost use Rattle.witness.specs.Labels.{endpoint_pieces, entry_pieces, label_name, label_pieces};
+ghost use Rattle.witness.specs.declared.labels.LabelWord.TheVariants.{Recovery};
 ghost use Rattle.witness.specs.Steps.{step_pieces};
 ghost use Rattle.witness.specs.WitnessText.{IsWitnessText, seen_alone, witness_for, witness_of};
 ghost use Rattle.witness.specs.Printable.{HasLabelBits, IsInMemory, IsPrintableWitness, with_columns};
 ghost use Rattle.witness.specs.Printed.{witness_text, without_spans};
 
 use crate::flags::push_flags;
-use case_forms::{Answer, Extras, Host, Label, NamedLine, OutOfMemory, SegmentPlan, Step, Witness};
+use case_forms::{
+    Answer, Extras, Host, Label, NamedLine, OutOfMemory, RecoveryChange, SegmentPlan, Step, Witness,
+};
 use line_fields::{
     first_text, push_answer, push_end, push_host, push_line, push_number, push_space, push_word,
 };
@@ -93,6 +96,16 @@ fn push_start(out: &mut Vec<u8>, iss: Option<Word>, shift: Option<u8>) -> Result
     Ok(())
 }
 
+// The first word of a label that says what becomes of a recovery, after a space.
+fn recovery_word(change: RecoveryChange) -> &'static str
+    ensures { result.now ≡ 32 ∷ label_name (Recovery change) }
+{
+    match change {
+        RecoveryChange::Begins => " F",
+        RecoveryChange::IsUndone => " U",
+    }
+}
+
 // Writes a label, each field after a space.
 fn push_label(out: &mut Vec<u8>, label: &Label<NamedLine>) -> Result<(), OutOfMemory>
     ensures { OnOk result (out.new.items ≡ out.old.items ++ printed_behind (label_pieces label.now)) }
@@ -129,7 +142,7 @@ fn push_label(out: &mut Vec<u8>, label: &Label<NamedLine>) -> Result<(), OutOfMe
             push_entry(out, *host, *line)
         }
         Label::F { host, recovery } => {
-            push_word(out, " F")?;
+            push_word(out, recovery_word(recovery.change))?;
             push_endpoint(out, *host, recovery.lport, recovery.rport)?;
             push_field(out, u64::from(recovery.cwnd))?;
             push_field(out, u64::from(recovery.ssthresh))

@@ -5,6 +5,7 @@ use crate::candidates::Candidates;
 use crate::choices::{Change, Fate, Remedy, Unseen};
 use crate::findings::Findings;
 use crate::key::EndpointKey;
+use crate::later_lines::sent_before;
 use crate::together::Kind;
 use case_forms::{Event, Header, Judged, Line, OutOfMemory, Timer};
 use segment::Flag;
@@ -34,6 +35,8 @@ pub(crate) struct Known<'t> {
     pub failure: Failure,
     /// For how many microseconds an arrival may wait.
     pub longest_wait: u64,
+    /// What is built before this moment has to be sent.
+    sent_before: u64,
     /// Whether arrivals are copies of lines: both hosts are recorded.
     are_copies: bool,
     /// Whether the congestion window is judged.
@@ -69,6 +72,7 @@ impl<'t> Known<'t> {
             findings: &attempt.findings,
             failure: attempt.failure()?,
             longest_wait: header.slack.unwrap_or(LONGEST_WAIT).min(LONGEST_WAIT),
+            sent_before: sent_before(header, lines),
             are_copies: !header.version.is_half(),
             is_full: matches!(header.congestion, Judged::Full),
         })
@@ -120,6 +124,12 @@ impl<'t> Known<'t> {
             Some(key) => self.unseen_after(out, spot, key),
             None => Ok(()),
         }
+    }
+
+    /// Whether a segment has to be sent that is built after the line at a place.
+    pub(crate) fn must_be_sent(&self, place: usize) -> bool {
+        let line = self.lines.get(place);
+        line.is_some_and(|line| line.moment < self.sent_before)
     }
 
     // An arrival waits, or is processed otherwise, or dropped.
@@ -238,14 +248,25 @@ impl<'t> Known<'t> {
             return Ok(());
         }
         match (self.failure.rule, self.timer_at()) {
-            (Rule::TimerOff | Rule::TimerEarly | Rule::Growth, Some(at)) if !spot.is_far => {
-                push_unseen(out, after, at, [Unseen::All, Unseen::One])
+            (Rule::TimerOff | Rule::TimerEarly | Rule::Growth, Some(at))
+                if !spot.is_far && !self.must_be_sent(after) => {
+                push_unseen(out, after, at, &[Unseen::All, Unseen::One])
             }
             (Rule::CallAnswer | Rule::State | Rule::NoEndpoint | Rule::Iss, _) if spot.is_far => {
-                push_unseen(out, after, key, [Unseen::Reset, Unseen::All])?;
-                push_unseen(out, after, key.peer(), [Unseen::Reset, Unseen::All])
+                let kinds = self.closing_after(after);
+                push_unseen(out, after, key, kinds)?;
+                push_unseen(out, after, key.peer(), kinds)
             }
             _ => Ok(()),
+        }
+    }
+
+    // What may be built after a line and lets a connection go on or end. A reset need not be sent in TIME-WAIT.
+    fn closing_after(&self, after: usize) -> &'static [Unseen] {
+        if self.must_be_sent(after) {
+            &[Unseen::Reset]
+        } else {
+            &[Unseen::Reset, Unseen::All]
         }
     }
 
@@ -264,10 +285,10 @@ fn push_unseen(
     out: &mut Candidates,
     after: usize,
     at: EndpointKey,
-    kinds: [Unseen; 2],
+    kinds: &[Unseen],
 ) -> Result<(), OutOfMemory> {
     for unseen in kinds {
-        out.push(after, Change::BuildUnseen(at, unseen))?;
+        out.push(after, Change::BuildUnseen(at, *unseen))?;
     }
     Ok(())
 }

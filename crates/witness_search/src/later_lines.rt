@@ -2,7 +2,7 @@
 //! lines, from 0.
 
 use crate::key::EndpointKey;
-use case_forms::{Event, Line, OutOfMemory, Wire};
+use case_forms::{Event, Header, Line, OutOfMemory, Wire};
 use segment::Flag;
 use seqno::Word;
 use std::alloc::Global;
@@ -15,6 +15,17 @@ type Chains = BTreeMap<EndpointKey, Vec<usize>>;
 fn put_first(chains: &mut Chains, key: EndpointKey, place: usize) -> Result<(), OutOfMemory> {
     chains.entry(key)?.or_default().push(place)?;
     Ok(())
+}
+
+/// The moment before which only what is sent may be built, or a duty is late after the last line (version 6); 0: there
+/// is no such moment.
+pub(crate) fn sent_before(header: &Header, lines: &[Line]) -> u64 {
+    match (header.slack, lines.last()) {
+        (Some(slack), Some(last)) if header.version.says_sender() => {
+            last.moment.saturating_sub(slack)
+        }
+        _ => 0,
+    }
 }
 
 /// What later lines show.

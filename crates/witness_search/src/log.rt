@@ -35,7 +35,7 @@ pub(crate) struct Log {
 pub(crate) fn extras_of(expired: Expired) -> Extras {
     match expired {
         Expired::Rto(growth) => Extras::Two(growth.cwnd, growth.ssthresh),
-        Expired::Persist | Expired::Msl2 | Expired::Giveup => Extras::Bare,
+        Expired::Persist | Expired::Msl2 | Expired::Giveup | Expired::Pto => Extras::Bare,
     }
 }
 

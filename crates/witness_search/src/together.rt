@@ -105,10 +105,11 @@ impl Known<'_> {
         out.end()
     }
 
-    // The last arrivals that end beyond the window: an unseen segment advertised a larger one.
+    // The last arrivals that end beyond the window: an unseen segment that need not be sent advertised a larger one.
     fn widen(&self, out: &mut Candidates) -> Result<(), OutOfMemory> {
         let places = self.findings.beyond.iter().rev().take(REACH);
         let places = places.filter(|place| self.is_at_failing_endpoint(**place));
+        let places = places.filter(|place| !self.must_be_sent(**place));
         for place in places.take(NEAR) {
             out.push(*place, Change::Fate(Fate::Widened))?;
         }

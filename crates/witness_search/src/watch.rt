@@ -58,7 +58,8 @@ impl Watch {
     // What hosts owe after a step.
     fn note(self, world: &World, duties: &mut Duties, seen: &Observation) -> Result<(), StepFault> {
         let now = view_in(world, &seen.touched);
-        duties.note(self.moment, seen, &now)?;
+        let strict = world.header().version.says_sender();
+        duties.note(strict, self.moment, seen, &now)?;
         Ok(())
     }
 

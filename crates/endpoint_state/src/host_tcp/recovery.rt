@@ -21,7 +21,13 @@ impl HostTcp {
         ensures place { IfOk result (λ place. place_of self.now recovery.lport recovery.rport ≡ Some place) }
     {
         let (place, endpoint) = self.endpoint_on(recovery.lport, recovery.rport)?;
-        admits_recovery(endpoint, recovery.cwnd, recovery.ssthresh, moment)?;
+        admits_recovery(
+            endpoint,
+            recovery.change,
+            recovery.cwnd,
+            recovery.ssthresh,
+            moment,
+        )?;
         Ok(place)
     }
 

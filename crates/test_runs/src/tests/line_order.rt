@@ -2,7 +2,9 @@
 
 ghost use Rattle.std.specs.Prelude.{◌≡◌, []};
 
-use case_forms::{Call, Event, Header, Initial, Judged, Line, OutOfMemory, Span, Version};
+use case_forms::{
+    Call, Event, Growth, Header, Initial, Judged, Line, OutOfMemory, Sender, Span, Version,
+};
 use interval_order::Window;
 use std::alloc::Global;
 
@@ -16,6 +18,8 @@ const HEADER: Header = Header {
     initial: Initial::Rfc5681,
     congestion: Judged::Full,
     slack: None,
+    sender: Sender::Reno,
+    growth: Growth::OneSegment,
 };
 
 // The moment of each line.

@@ -7,7 +7,7 @@ ghost use Rattle.spec_merge.specs.Books.{Aims};
 ghost use Rattle.stack_core.specs.Cores.{IsCallWithin};
 ghost use Rattle.test_runs.specs.Scenes.{test_header};
 
-use case_forms::{Answer, Call, Header, Host, Initial, Judged, Version};
+use case_forms::{Answer, Call, Growth, Header, Host, Initial, Judged, Sender, Version};
 use recorder::{CoreConfig, HostBook, Recorder, Seat, Site};
 use segment::Bytes;
 use std::alloc::Global;
@@ -37,6 +37,8 @@ fn header() -> Header
         initial: Initial::Rfc5681,
         congestion: Judged::Full,
         slack: None,
+        sender: Sender::Reno,
+        growth: Growth::OneSegment,
     }
 }
 

@@ -7,7 +7,7 @@ use crate::calls::listener_at;
 use crate::choices::Arrival;
 use crate::key::EndpointKey;
 use crate::late::Waiting;
-use crate::later_lines::Shown;
+use crate::later_lines::{Shown, sent_before};
 use crate::progress::{Progress, Will, saturated};
 use crate::stop::{Stop, permitted};
 use case_forms::{Event, Host, TakeChoice, Timer, Wire};
@@ -24,6 +24,9 @@ const LATE: u64 = 20_000;
 
 // For how many microseconds an acknowledgment may be delayed (RFC 9293, 3.8.6.3).
 const DELAY: u64 = 500_000;
+
+// How many duties may change how an arrival is processed.
+const DUE: usize = 2;
 
 // When an arrival is processed.
 #[derive(Clone, Copy)]
@@ -85,14 +88,49 @@ impl Progress {
         Ok(true)
     }
 
-    // Processes an arrival. If a duty requires it to be kept, it is.
-    fn take_or_keep(&mut self, host: Host, line: u64, choice: TakeChoice) -> Result<(), Stop> {
-        let keep = match self.take(host, line, choice, Will::Try) {
-            Err(Stop::Broken(Rule::Discarded)) if !self.log.forgives => true,
-            Err(Stop::Broken(_)) => choice.keep,
-            done => return done,
+    // Processes an arrival. If a duty requires it to be kept, or its round trip to be measured, that is done.
+    fn take_as_due(&mut self, host: Host, line: u64, choice: TakeChoice) -> Result<(), Stop> {
+        let mut due = choice;
+        for _ in 0..DUE {
+            match self.take(host, line, due, Will::Try) {
+                Err(Stop::Broken(Rule::Discarded)) if !self.log.forgives => due.keep = true,
+                Err(Stop::Broken(Rule::SampleDue)) => due.sample = true,
+                Err(Stop::Broken(_)) => break,
+                done => return done,
+            }
+        }
+        self.take(host, line, due, Will::Insist)
+    }
+
+    // Processes an arrival of which nothing is kept. The result is whether that's permitted.
+    fn try_discarding(&mut self, host: Host, line: u64) -> Result<bool, Stop> {
+        let how = Arrival {
+            is_not_kept: true,
+            ..Arrival::default()
         };
-        self.take(host, line, TakeChoice { keep, ..choice }, Will::Insist)
+        let Some(Processing { key, choice, ack }) = self.processing(host, line, how) else {
+            return Ok(false);
+        };
+        let is_done = self.try_taking(host, line, choice)?;
+        if is_done {
+            self.acknowledge(key, ack);
+        }
+        Ok(is_done)
+    }
+
+    // Processes an arrival, and measures its round trip if a duty requires that. The result is whether that's
+    // permitted.
+    fn try_taking(&mut self, host: Host, line: u64, choice: TakeChoice) -> Result<bool, Stop> {
+        match self.take(host, line, choice, Will::Try) {
+            Err(Stop::Broken(Rule::SampleDue)) => {
+                let due = TakeChoice {
+                    sample: true,
+                    ..choice
+                };
+                Ok(permitted(self.take(host, line, due, Will::Try))?.is_some())
+            }
+            done => Ok(permitted(done)?.is_some()),
+        }
     }
 
     // How an arrival is processed: with the greatest choice that is permitted in the ways of its host.
@@ -262,6 +300,45 @@ impl<'t> Pass<'t> {
         Ok(true)
     }
 
+    /// A mere acknowledgment is built next. In version 6, it answers only what was processed before. So what is late at
+    /// its endpoint is processed now, if nothing of it is kept.
+    pub(crate) fn discard_late(&mut self, key: EndpointKey) -> Result<(), Stop> {
+        for _ in 0..self.late.count(key) {
+            let Some(waiting) = self.late.first(key) else {
+                break;
+            };
+            if self.is_kept_later(waiting) || !self.try_discarding(waiting)? {
+                break;
+            }
+        }
+        Ok(())
+    }
+
+    // Whether the segment after the one that is built next shows that an arrival was kept, or was built before it.
+    fn is_kept_later(&self, waiting: Waiting) -> bool {
+        match self.earlier(waiting.host, waiting.line) {
+            Some((_, is_needed)) => !is_needed,
+            None => match self.progress.waiting(waiting.host, waiting.line) {
+                Some((key, _)) => self.outgoing.next(key).is_some(),
+                None => true,
+            },
+        }
+    }
+
+    // Processes the first arrival that is late at its endpoint, of which nothing is kept. The result is whether that's
+    // permitted.
+    fn try_discarding(&mut self, waiting: Waiting) -> Result<bool, Stop> {
+        let Some((key, _)) = self.progress.waiting(waiting.host, waiting.line) else {
+            return Ok(false);
+        };
+        if !self.progress.try_discarding(waiting.host, waiting.line)? {
+            return Ok(false);
+        }
+        self.late.remove_first(key);
+        self.wake_receiver(key)?;
+        Ok(true)
+    }
+
     // The arrival of the current line waits at its host. The result is the line's number.
     fn bring_in(&mut self, host: Host, wire: &'t Wire, how: Arrival) -> Result<u64, Stop> {
         if self.sought.header.version.is_half() {
@@ -367,16 +444,22 @@ impl<'t> Pass<'t> {
             sample: false,
         };
         let key = self.progress.waiting(host, line).map(|(key, _)| key);
-        if let (Some(key), Some(())) = (
-            key,
-            permitted(self.progress.take(host, line, bare, Will::Try))?,
-        ) {
+        if let Some(key) = key
+            && self.progress.try_taking(host, line, bare)?
+        {
             return self.wake_receiver(key);
         }
-        if permitted(self.progress.reply_with_reset(host, line))?.is_some() {
+        if self.may_stay_unsent()
+            && permitted(self.progress.reply_with_reset(host, line))?.is_some()
+        {
             return Ok(());
         }
         self.progress.drop_arrival(host, line, Will::Insist)
+    }
+
+    /// Whether no duty requires that a segment is sent that is built now.
+    pub(crate) fn may_stay_unsent(&self) -> bool {
+        sent_before(self.sought.header, self.sought.lines) <= self.progress.moment()
     }
 
     // Processes an arrival, if that's permitted.
@@ -384,7 +467,7 @@ impl<'t> Pass<'t> {
         let Some(Processing { key, choice, ack }) = self.progress.processing(host, line, how) else {
             return Ok(false);
         };
-        self.progress.take_or_keep(host, line, choice)?;
+        self.progress.take_as_due(host, line, choice)?;
         self.progress.acknowledge(key, ack);
         self.wake_receiver(key)?;
         Ok(true)

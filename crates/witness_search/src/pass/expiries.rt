@@ -5,7 +5,7 @@ use crate::calls::{Meant, endpoint_at};
 use crate::key::EndpointKey;
 use crate::progress::{Progress, saturated};
 use crate::stop::{Stop, permitted};
-use case_forms::{Expired, Recovery, RtoChoice, Timer};
+use case_forms::{Expired, Recovery, RecoveryChange, RtoChoice, Timer};
 use endpoint::{greatest_at_recovery, greatest_values};
 
 impl Progress {
@@ -16,6 +16,7 @@ impl Progress {
             Timer::Persist => Expired::Persist,
             Timer::Msl2 => Expired::Msl2,
             Timer::Giveup => Expired::Giveup,
+            Timer::Pto => Expired::Pto,
         }
     }
 
@@ -54,6 +55,7 @@ impl Progress {
         };
         let (cwnd, ssthresh) = greatest_at_recovery(endpoint, self.moment());
         let recovery = Recovery {
+            change: RecoveryChange::Begins,
             lport: key.lport,
             rport: key.rport,
             cwnd: saturated(cwnd),

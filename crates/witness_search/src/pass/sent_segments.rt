@@ -49,6 +49,11 @@ fn holds_oldest(endpoint: &Endpoint, plan: &SegmentPlan) -> bool {
     plan.pos <= una && una < plan.pos.saturating_add(len) && una < endpoint.snd_max()
 }
 
+// Whether a segment has neither bytes nor a SYN or FIN.
+fn is_mere(wire: &Wire) -> bool {
+    wire.seg.payload.is_empty() && !wire.seg.has(Flag::Syn) && !wire.seg.has(Flag::Fin)
+}
+
 impl Progress {
     /// The segment that a line shows, as its endpoint has to build it.
     pub(crate) fn plan_of(&self, key: EndpointKey, wire: &Wire) -> SegmentPlan {
@@ -130,7 +135,12 @@ impl<'t> Pass<'t> {
         let place = self.progress.log.place();
         let made = match self.outgoing.start_sending(Shown { key, place, wire })? {
             Some(made) => made,
-            None => self.make_shown(key, wire)?,
+            None => {
+                if self.answers_what_is_late(key, wire) {
+                    self.discard_late(key)?;
+                }
+                self.make_shown(key, wire)?
+            }
         };
         self.answer_late(key, wire)?;
         let line = self.progress.send(host, made, wire)?;
@@ -210,12 +220,17 @@ impl<'t> Pass<'t> {
         self.suppose_at(key)
     }
 
+    // Whether a segment that isn't built yet may answer what is late at its endpoint, in version 6 with a slack.
+    fn answers_what_is_late(&self, key: EndpointKey, wire: &Wire) -> bool {
+        self.progress.slack().is_some()
+            && self.sought.header.version.says_sender()
+            && is_mere(wire)
+            && self.late.count(key) > 0
+    }
+
     // An acknowledgment answers an arrival: if all others are answered, one that is late is processed.
     fn answer_late(&mut self, key: EndpointKey, wire: &Wire) -> Result<(), Stop> {
-        let is_mere = wire.seg.payload.is_empty()
-            && !wire.seg.has(Flag::Syn)
-            && !wire.seg.has(Flag::Fin);
-        if is_mere && self.progress.is_all_answered(key) {
+        if is_mere(wire) && self.progress.is_all_answered(key) {
             self.hurry(key)?;
         }
         Ok(())

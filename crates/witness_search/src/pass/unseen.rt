@@ -106,6 +106,9 @@ impl Pass<'_> {
         unseen: Unseen,
         to: u64,
     ) -> Result<bool, Stop> {
+        if !self.may_be_unseen(key, unseen) {
+            return Ok(false);
+        }
         let most = if unseen == Unseen::All { MOST } else { 1 };
         let mut is_made = false;
         for _ in 0..most {
@@ -124,6 +127,13 @@ impl Pass<'_> {
             self.wake_endpoint(key)?;
         }
         Ok(is_made)
+    }
+
+    // Whether no duty requires that such a segment is sent. A reset that is built in TIME-WAIT need not be.
+    fn may_be_unseen(&self, key: EndpointKey, unseen: Unseen) -> bool {
+        let endpoint = self.progress.endpoint(key);
+        let is_over = endpoint.is_some_and(|endpoint| endpoint.state.is_time_wait());
+        self.may_stay_unsent() || unseen == Unseen::Reset && is_over
     }
 
     // The next segment that an endpoint can build. None: it has nothing to send.

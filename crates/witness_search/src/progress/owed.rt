@@ -4,7 +4,9 @@ use super::Progress;
 use crate::calls::key_at;
 use crate::key::EndpointKey;
 use case_forms::{Host, MOST_STEPS};
-use duties::{admits_lates, expiry_due, lates_of, view_of};
+use duties::{acknowledge_due, admits_lates, expiry_due, is_late, is_late_at_once, view_of};
+use spec_duties::Unsent;
+use spec_tcp::EndpointId;
 use verdict::Rule;
 use watched::late_at_end;
 
@@ -44,12 +46,49 @@ impl Progress {
         if self.world.steps() > MOST_STEPS {
             return None;
         }
-        let (_, rule) = late_at_end(slack, moment, &self.duties, &self.world)?;
+        let header = self.world.header();
+        let (_, rule) = late_at_end(header, slack, moment, &self.duties, &self.world)?;
         let key = match self.late_on(Host::Zero, slack, rule) {
             None => self.late_on(Host::One, slack, rule),
             zero => zero,
         };
+        let key = key.or(self.late_with_unsent(slack, rule));
         Some(Overdue { rule, key })
+    }
+
+    // The endpoint that built the first segment that wasn't sent and breaks this rule after the last line (version 6).
+    fn late_with_unsent(&self, slack: u64, rule: Rule) -> Option<EndpointKey> {
+        for entry in self.duties.unsent() {
+            if let Some(unsent) = &entry.1
+                && self.is_unsent_late(unsent, slack, rule)
+            {
+                return self.builder_of(u32::try_from(entry.0).ok()?);
+            }
+        }
+        None
+    }
+
+    // Whether a segment that wasn't sent breaks this rule after the last line.
+    fn is_unsent_late(&self, unsent: &Unsent, slack: u64, rule: Rule) -> bool {
+        let moment = self.log.moment;
+        match rule {
+            Rule::SendLate => {
+                !unsent.spared && is_late_at_once(slack, moment, Some(unsent.since))
+            }
+            Rule::AckLate => is_late(slack, moment, acknowledge_due(unsent.acknowledge)),
+            _ => false,
+        }
+    }
+
+    // The endpoint that built a segment.
+    fn builder_of(&self, number: u32) -> Option<EndpointKey> {
+        for host in [Host::Zero, Host::One] {
+            if let Some(made) = self.world.made(host, number) {
+                let m = made.emission();
+                return Some(EndpointKey::new(host, m.lport, m.rport));
+            }
+        }
+        None
     }
 
     // The first endpoint of a host that breaks this rule after the last line.
@@ -69,10 +108,15 @@ impl Progress {
         let Some(endpoint) = self.world.body(host).endpoint_at(place) else {
             return false;
         };
-        let view = view_of(endpoint);
-        let closed = self.duties.listener_closed(host, &view);
-        let owed = self.duties.owed_by(host, place);
-        let lates = lates_of(slack, self.log.moment, &view, closed, &owed);
+        let id = EndpointId {
+            host,
+            number: place,
+        };
+        let (header, view) = (self.world.header(), view_of(endpoint));
+        let moment = self.log.moment;
+        let lates = self
+            .duties
+            .judged_lates(header, slack, moment, None, id, &view);
         admits_lates(lates).err() == Some(rule)
     }
 }

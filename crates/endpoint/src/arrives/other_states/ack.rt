@@ -58,7 +58,7 @@ pub(crate) fn is_duplicate(endpoint: &Endpoint, m: &Arrived<'_>) -> bool
 
 /// Whether it may be used to measure a round trip: it acknowledges what was not acknowledged before, all of which was
 /// sent once, or the last position of which was from version 5 on (RFC 6298, 3).
-pub(crate) fn may_sample(version: Version, endpoint: &Endpoint, m: &Arrived<'_>) -> bool
+pub fn may_sample(version: Version, endpoint: &Endpoint, m: &Arrived<'_>) -> bool
     ensures { result ≡ may_sample version endpoint.now m.now }
 {
     is_new_ack(endpoint, m)

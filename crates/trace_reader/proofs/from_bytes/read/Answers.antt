@@ -1,6 +1,5 @@
 use Rattle.std.proofs.Common.{ℕ, List, Bor, Some, Result, ap, subst, ◌∙◌, Err}
 use Rattle.std.proofs.lemmas.Result.{err_from_is_err_and}
-use Rattle.counted.specs.declared.ends.Counted.{Counted}
 use Rattle.case_forms.specs.declared.trace.Trace.{Trace}
 use Rattle.line_fields.specs.declared.fault.TextFault.{TextFault}
 use Rattle.line_fields.specs.declared.fault.SourceFault.{SourceFault}

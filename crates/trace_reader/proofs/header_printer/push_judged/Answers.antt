@@ -10,4 +10,4 @@ four_written o a b c d x y z w first second third fourth =
 pub returns : goal.returns
 returns c =
     four_written _ _ _ _ _ _ _ _ _ (rw c.initial_number.ensures at c.in_ok-push_number_line.ensures) c.in_ok-push_number_line-2.ensures
-    (rw c.judged_name.ensures at c.in_ok-push_word_line.ensures) c.in_ok-push_slack.ensures
+    (rw c.judged_name.ensures at c.in_ok-push_word_line.ensures) c.in_ok-push_last.ensures

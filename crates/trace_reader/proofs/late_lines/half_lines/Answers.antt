@@ -1,7 +1,8 @@
 use Rattle.std.proofs.Common.{refl}
 use Rattle.std.proofs.lemmas.Result.{err_from_is_err_and}
 use Rattle.trace_reader.specs.Headers.{initial_line, half_line}
-use Rattle.trace_reader.proofs.HeaderReads.{with_host, with_half, value_then, value_not, value_last}
+use Rattle.trace_reader.proofs.HeaderLaw.{with_host, with_half}
+use Rattle.trace_reader.proofs.HeaderReads.{value_then, value_not, value_last}
 use Rattle.trace_reader.proofs.late_lines.half_lines.Goals as goal
 
 pub returns-in_err-initial-clause-value : goal.returns-in_err-initial-clause-value

@@ -13,10 +13,11 @@ loop-place-preserved c =
     let body : HostTcp = (pick c.args.world.now.world.hosts c.args.host).body in
     let found =
     subst (λ (b : HostTcp). c.lates_with-lates.result
-    ≡ option_map_or (λ e. either c.loop-place.lates (lates_at c.args.slack c.args.moment c.args.duties.now c.args.host c.loop-place.place e))
+    ≡ option_map_or (λ e. either c.loop-place.lates
+    (lates_at c.args.at.header.now c.args.at.slack c.args.at.moment c.args.duties.now c.args.host c.loop-place.place e))
     (slice_get b.endpoints c.loop-place.place) c.loop-place.lates) c.body-body.ensures c.lates_with-lates.ensures in
     let within = subst (λ n. c.loop-place.place < n) c.places-place-end.ensures c.loop-place-test.true in
-    ap (λ (l : Lates). lates_from c.args.slack c.args.moment c.args.duties.now c.args.host (c.loop-place.place + 1) l
+    ap (λ (l : Lates). lates_from c.args.at.header.now c.args.at.slack c.args.at.moment c.args.duties.now c.args.host (c.loop-place.place + 1) l
     (drop (c.loop-place.place + 1) body.endpoints)) found
-    ∙ lates_next c.args.slack c.args.moment c.args.duties.now c.args.host body.endpoints c.loop-place.place c.loop-place.lates within
+    ∙ lates_next c.args.at.header.now c.args.at.slack c.args.at.moment c.args.duties.now c.args.host body.endpoints c.loop-place.place c.loop-place.lates within
     ∙ c.loop-place.invariant

@@ -4,6 +4,10 @@ use Rattle.spec_network.specs.Hosts.{At, Answers}
 use Rattle.verdict.specs.Rules.{first_broken}
 use Rattle.spec_network.specs.HostRules.{host_step_rules}
 use Rattle.spec_tcp.specs.Machine.{tcp}
+use Rattle.std.specs.Prelude.{Err}
+use Rattle.std.proofs.lemmas.Result.{err_from_is_err_and}
+use Rattle.spec_network.specs.HostRules.{step_rules}
+use Rattle.endpoint_state.specs.Faults.{fault_rule}
 use Rattle.endpoint_state.specs.Kinds.{answered_one}
 use Rattle.endpoint_state.specs.Sides.{AreReady}
 use Rattle.endpoint_state.specs.Worlds.{Progress}
@@ -50,3 +54,13 @@ returns-clause-ok c =
     ∙ ap (λ (x : Host_). answered_one c.args.line (c.self.inside.count + 1) x) c.side.ensures.value)
     ∙ answered_hosts c.self.inside.header 0
     (c.self.inside.count + 1) c.args.line c.self.inside.hosts c.args.host room) refl
+
+pub returns-in_err-reply_with_reset-clause-fault : goal.returns-in_err-reply_with_reset-clause-fault
+returns-in_err-reply_with_reset-clause-fault c =
+    let p = err_from_is_err_and c.from_residual.result c.from_residual.ensures.1 in
+    ap fault_rule (p.1 ∙ ap (λ f. Err f) p.2)
+    ∙ c.in_err-reply_with_reset.ensures.fault
+    ∙ ap (λ (h : Host_). first_broken (host_step_rules (tcp c.self.inside.header) c.args.host 0 [] h (Answers c.args.line)))
+    c.side.ensures.value
+    ∙ ap (λ (p : Progress). first_broken (step_rules (tcp p.header) 0 p.world (At c.args.host (Answers c.args.line))))
+    c.self.view_is

@@ -1,0 +1,352 @@
+//! The duties that are stricter in version 6, or have later deadlines.
+//! `lib.rt` says why each function here is inlined.
+
+ghost use Rattle.std.specs.Prelude.{◌≡◌, ◌*◌, ◌^◌, min, if◌then◌else◌};
+ghost use Rattle.spec_duties.specs.Strict.{builds_answer, clock_error, coarse_expiry_due, coarse_probing_due};
+ghost use Rattle.spec_duties.specs.Strict.{doubled_error, is_fin_alone, is_spared, longest_coarse_run};
+ghost use Rattle.spec_duties.specs.Strict.{next_coarse_probe_due, nothing_strict, opens, rebuilds_oldest};
+ghost use Rattle.spec_duties.specs.Strict.{restarted_after, sends_oldest_or_probe, sends_probe, strict_after};
+ghost use Rattle.spec_duties.specs.Strict.{strict_lates, strict_probe_after, strict_retransmit_after, taken_over};
+ghost use Rattle.spec_duties.specs.Strict.{unbuilt_answer_after, with_brought};
+
+use crate::acknowledge::{acknowledge_due, asks_ack};
+use crate::deadlines::{is_late, is_late_at_once};
+use crate::expire::has_expiry_due;
+use crate::owed::lates_of;
+use crate::probe::is_probing_segment;
+use crate::resent::making_length;
+use crate::retransmit::{acknowledges_more, holds, is_probe_timeout, is_timeout};
+use crate::sampling::timed_after;
+use case_forms::SegmentPlan;
+use spec_duties::{Event, Lates, Owed, Probing, Sampling, StrictOwed, TouchedEndpoint, View};
+use timer_rules::LONGEST_RTO;
+
+/// Before any step touches an endpoint.
+#[inline(always)]
+pub(crate) fn nothing_strict() -> StrictOwed
+    ensures { result ≡ nothing_strict }
+{
+    StrictOwed {
+        acknowledge: None,
+        retransmit: None,
+        probe: None,
+        restarted: 0,
+        timed: 0,
+        widest: 0,
+    }
+}
+
+#[inline(always)]
+fn builds_answer(event: &Event) -> bool
+    ensures { result ≡ builds_answer event.now }
+{
+    match event {
+        Event::Builds(plan) => plan.flags.ack || plan.flags.rst,
+        Event::Opens
+        | Event::Calls { .. }
+        | Event::Processes { .. }
+        | Event::Drops { .. }
+        | Event::Sends(_)
+        | Event::Expires(_)
+        | Event::Recovers => false,
+    }
+}
+
+// Since when an acknowledgment is owed for which no segment was built, after a step.
+#[inline(always)]
+fn unbuilt_answer_after(
+    event: &Event,
+    before: &View,
+    moment: u64,
+    acknowledged: Option<u64>,
+    since: Option<u64>,
+) -> Option<u64>
+    ensures { result ≡ unbuilt_answer_after event.now before.now moment acknowledged since }
+{
+    if builds_answer(event) {
+        None
+    } else if asks_ack(event, before.state, moment, acknowledged) {
+        since.or(Some(moment))
+    } else {
+        since
+    }
+}
+
+/// Since when the acknowledgment is owed that a segment takes over which is built now.
+#[inline(always)]
+pub(crate) fn taken_over(event: &Event, since: Option<u64>) -> Option<u64>
+    ensures { result ≡ taken_over event.now since }
+{
+    if builds_answer(event) { since } else { None }
+}
+
+/// Whether a segment that is built need not be sent.
+#[inline(always)]
+pub(crate) fn is_spared(event: &Event, before: &View) -> bool
+    ensures { result ≡ is_spared event.now before.now }
+{
+    match event {
+        Event::Builds(plan) => plan.flags.rst && before.state.is_time_wait(),
+        Event::Opens
+        | Event::Calls { .. }
+        | Event::Processes { .. }
+        | Event::Drops { .. }
+        | Event::Sends(_)
+        | Event::Expires(_)
+        | Event::Recovers => false,
+    }
+}
+
+#[inline(always)]
+fn is_fin_alone(plan: &SegmentPlan, v: &View) -> bool
+    ensures { result ≡ is_fin_alone plan.now v.now }
+{
+    plan.flags.fin && plan.len == 0 && plan.pos < v.snd_max
+}
+
+// Whether a segment is built that holds the oldest unacknowledged position, which was built before.
+#[inline(always)]
+fn rebuilds_oldest(event: &Event, v: &View) -> bool
+    ensures { result ≡ rebuilds_oldest event.now v.now }
+{
+    match event {
+        Event::Builds(plan) => {
+            v.snd_una < v.snd_max
+                && plan.pos <= v.snd_una
+                && v.snd_una - plan.pos < making_length(plan)
+                && !is_fin_alone(plan, v)
+        }
+        Event::Opens
+        | Event::Calls { .. }
+        | Event::Processes { .. }
+        | Event::Drops { .. }
+        | Event::Sends(_)
+        | Event::Expires(_)
+        | Event::Recovers => false,
+    }
+}
+
+// Whether the offered window opens.
+#[inline(always)]
+fn opens(before: &View, after: &View) -> bool
+    ensures { result ≡ opens before.now after.now }
+{
+    before.snd_wnd == 0 && 0 < after.snd_wnd
+}
+
+// When the retransmission timer last got its whole time again, after a step.
+#[inline(always)]
+fn restarted_after(event: &Event, before: &View, after: &View, moment: u64, restarted: u64) -> u64
+    ensures { result ≡ restarted_after event.now before.now after.now moment restarted }
+{
+    if rebuilds_oldest(event, before) || opens(before, after) {
+        moment
+    } else {
+        restarted
+    }
+}
+
+// By how much a timeout is too long at most, with a clock of this granularity in microseconds.
+#[inline(always)]
+fn clock_error(grain: u64) -> u128
+    ensures { result ≡ clock_error grain }
+{
+    5 * grain as u128
+}
+
+// The same after the timeout was doubled so often.
+#[inline(always)]
+fn doubled_error(grain: u64, backoffs: u32) -> u128
+    ensures { result ≡ doubled_error grain backoffs }
+{
+    clock_error(grain) << backoffs.min(26)
+}
+
+#[inline(always)]
+fn longest_coarse_run(grain: u64, v: &View) -> u128
+    ensures { result ≡ longest_coarse_run grain v.now }
+{
+    if v.timers.srtt.is_some() {
+        (v.timers.rto as u128 + doubled_error(grain, v.backoffs)).min(LONGEST_RTO as u128)
+    } else {
+        3 * v.timers.rto as u128
+    }
+}
+
+/// By when the retransmission timer has to expire in version 6, in microseconds, with a clock of this granularity, if
+/// it last got its whole time again at this moment. None: there is no such deadline.
+#[inline(always)]
+pub fn coarse_expiry_due(grain: u64, v: &View, restarted: u64) -> Option<u128>
+    ensures { result ≡ coarse_expiry_due grain v.now restarted }
+{
+    if !has_expiry_due(v) {
+        return None;
+    }
+    match v.timers.rto_armed {
+        Some(since) => Some(since.max(restarted) as u128 + longest_coarse_run(grain, v)),
+        None => None,
+    }
+}
+
+#[inline(always)]
+fn next_coarse_probe_due(grain: u64, rto: u64, probing: Probing) -> Option<u128>
+    ensures { result ≡ next_coarse_probe_due grain rto probing }
+{
+    let factor = probing.factor as u128;
+    if (rto as u128 * factor) < LONGEST_RTO as u128 {
+        Some(probing.since as u128 + (rto as u128 + clock_error(grain)) * factor)
+    } else {
+        None
+    }
+}
+
+/// By when the next probe is due in version 6, in microseconds, with a clock of this granularity. None: none is.
+#[inline(always)]
+pub fn coarse_probing_due(grain: u64, v: &View, probing: Option<Probing>) -> Option<u128>
+    ensures { result ≡ coarse_probing_due grain v.now probing }
+{
+    match probing {
+        Some(probing) => next_coarse_probe_due(grain, v.timers.rto, probing),
+        None => None,
+    }
+}
+
+#[inline(always)]
+fn sends_oldest_or_probe(event: &Event, v: &View) -> bool
+    ensures { result ≡ sends_oldest_or_probe event.now v.now }
+{
+    match event {
+        Event::Sends(sending) => {
+            holds(sending, v.snd_una) || v.snd_wnd == 0 && is_probing_segment(sending, v)
+        }
+        Event::Opens
+        | Event::Calls { .. }
+        | Event::Processes { .. }
+        | Event::Drops { .. }
+        | Event::Builds(_)
+        | Event::Expires(_)
+        | Event::Recovers => false,
+    }
+}
+
+// Since when the oldest position is to be sent again, after a step.
+#[inline(always)]
+fn strict_retransmit_after(
+    event: &Event,
+    before: &View,
+    after: &View,
+    moment: u64,
+    since: Option<u64>,
+) -> Option<u64>
+    ensures { result ≡ strict_retransmit_after event.now before.now after.now moment since }
+{
+    if is_timeout(event) {
+        since.or(Some(moment))
+    } else if sends_oldest_or_probe(event, before) || acknowledges_more(before, after) {
+        None
+    } else {
+        since
+    }
+}
+
+#[inline(always)]
+fn sends_probe(event: &Event, v: &View) -> bool
+    ensures { result ≡ sends_probe event.now v.now }
+{
+    match event {
+        Event::Sends(sending) => is_probing_segment(sending, v),
+        Event::Opens
+        | Event::Calls { .. }
+        | Event::Processes { .. }
+        | Event::Drops { .. }
+        | Event::Builds(_)
+        | Event::Expires(_)
+        | Event::Recovers => false,
+    }
+}
+
+// Since when a probe is to be sent because the persist timer expired, after a step.
+#[inline(always)]
+fn strict_probe_after(
+    event: &Event,
+    before: &View,
+    after: &View,
+    moment: u64,
+    since: Option<u64>,
+) -> Option<u64>
+    ensures { result ≡ strict_probe_after event.now before.now after.now moment since }
+{
+    if is_probe_timeout(event) {
+        since.or(Some(moment))
+    } else if sends_probe(event, before)
+        || acknowledges_more(before, after)
+        || opens(before, after)
+    {
+        None
+    } else {
+        since
+    }
+}
+
+/// What an endpoint owes by the stricter duties after a step that touched it, if it is then seen like this.
+/// `acknowledged`: when it last sent a segment with ACK, before the step.
+#[inline(always)]
+pub(crate) fn strict_after(
+    sampling: Sampling,
+    touched: &TouchedEndpoint,
+    after: &View,
+    moment: u64,
+    acknowledged: Option<u64>,
+    owed: &StrictOwed,
+) -> StrictOwed
+    ensures { result
+        ≡ strict_after sampling touched.now.event touched.now.before after.now moment acknowledged owed.now }
+{
+    let (event, before) = (&touched.event, &touched.before);
+    StrictOwed {
+        acknowledge: unbuilt_answer_after(event, before, moment, acknowledged, owed.acknowledge),
+        retransmit: strict_retransmit_after(event, before, after, moment, owed.retransmit),
+        probe: strict_probe_after(event, before, after, moment, owed.probe),
+        restarted: restarted_after(event, before, after, moment, owed.restarted),
+        timed: timed_after(sampling, event, before, after, owed.timed),
+        widest: owed.widest.max(after.snd_wnd),
+    }
+}
+
+/// Which duties of an endpoint are late in version 6, with a clock of this granularity in microseconds.
+#[inline(always)]
+pub(crate) fn strict_lates(
+    grain: u64,
+    slack: u64,
+    moment: u64,
+    v: &View,
+    listener_closed: Option<u64>,
+    owed: &Owed,
+    strict: &StrictOwed,
+) -> Lates
+    ensures { result ≡ strict_lates grain slack moment v.now listener_closed owed.now strict.now }
+{
+    let lates = lates_of(slack, moment, v, listener_closed, owed);
+    if v.state.is_closed() {
+        return lates;
+    }
+    Lates {
+        acknowledge: is_late(slack, moment, acknowledge_due(strict.acknowledge)),
+        expire: is_late(slack, moment, coarse_expiry_due(grain, v, strict.restarted)),
+        retransmit: is_late_at_once(slack, moment, strict.retransmit)
+            || is_late_at_once(slack, moment, strict.probe),
+        probe: is_late(slack, moment, coarse_probing_due(grain, v, owed.probing)),
+        ..lates
+    }
+}
+
+/// The same, if the segment that brings an acknowledgment is late with it.
+#[inline(always)]
+pub fn with_brought(late: bool, lates: Lates) -> Lates
+    ensures { result ≡ with_brought late lates }
+{
+    Lates {
+        acknowledge: late || lates.acknowledge,
+        ..lates
+    }
+}
