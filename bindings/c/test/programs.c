@@ -118,7 +118,7 @@ static int threads(size_t many, size_t count, char **names) {
 
 static int rules(void) {
     char name[32];
-    for (uint32_t rule = 0; rule <= 53; rule++) {
+    for (uint32_t rule = 0; rule <= 58; rule++) {
         size_t length = tcpwit_rule_name(rule, name, sizeof name);
         printf("%u %u %s\n", (unsigned)rule, (unsigned)length, name);
     }

@@ -29,7 +29,7 @@ __all__ = ["ANY_SLACK", "Answer", "Fault", "Judgement", "Level", "No", "Rule", "
 
 Text = Union[str, bytes, Trace]
 
-_RULES = list(Rule)
+_RULES = {rule.number: rule for rule in Rule}
 _FAULTS = dict(zip([1, 2, 3, 4, 5, 6, 7, 8, 10, 11, 12, 13], Fault))
 _LEVELS = dict(enumerate(Level))
 # The line that the library gives if a text can't be read.
@@ -48,7 +48,7 @@ def _answer(given: library.Answer) -> Answer:
     if given.kind == 0:
         return Yes(given.lines, given.hidden)
     if given.kind == 1:
-        return No(given.witness_line, given.trace_line, _RULES[given.rule - 1])
+        return No(given.witness_line, given.trace_line, _RULES[given.rule])
     if given.kind == 4:
         raise MemoryError("tcpwit ran out of memory")
     error = TraceError if given.kind == 2 else WitnessError

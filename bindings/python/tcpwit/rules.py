@@ -4,7 +4,7 @@ from __future__ import annotations
 import enum
 
 # The numbers of the rules, in their order.
-NUMBERS = (*range(1, 53), 56)
+NUMBERS = (*range(1, 53), *range(56, 58))
 
 
 class Rule(enum.Enum):
@@ -63,8 +63,9 @@ class Rule(enum.Enum):
     RESENT_BEYOND = "resent-beyond"
     ACK_EXCESS = "ack-excess"
     SAMPLE_DUE = "sample-due"
+    ANSWER_LATE = "answer-late"
 
     @property
     def number(self) -> int:
-        """The rule's number: 1 to 52, or 56."""
+        """The rule's number: 1 to 52, or 56 to 57."""
         return NUMBERS[list(Rule).index(self)]

@@ -111,11 +111,13 @@ pub enum Rule {
     AckExcess = 52,
     /// A round trip isn't measured, though none was since this data was sent (RFC 6298, 3).
     SampleDue = 56,
+    /// A call that can be answered is answered late (RFC 9293, 3.9.1).
+    AnswerLate = 57,
 }
 
 impl Rule {
     /// All rules, in the order of their numbers.
-    pub const ALL: [Rule; 53] = [
+    pub const ALL: [Rule; 54] = [
         Rule::LineRange,
         Rule::LineAgain,
         Rule::ThreadOrder,
@@ -169,14 +171,15 @@ impl Rule {
         Rule::ResentBeyond,
         Rule::AckExcess,
         Rule::SampleDue,
+        Rule::AnswerLate,
     ];
 
-    /// The rule with this number: 1 to 52, or 56.
+    /// The rule with this number: 1 to 52, or 56 to 57.
     pub fn numbered(number: u32) -> Option<Rule> {
         Self::ALL.into_iter().find(|rule| rule.number() == number)
     }
 
-    /// Its number: 1 to 52, or 56.
+    /// Its number: 1 to 52, or 56 to 57.
     pub fn number(self) -> u32 {
         self as u32
     }
@@ -237,6 +240,7 @@ impl Rule {
             Rule::ResentBeyond => "resent-beyond",
             Rule::AckExcess => "ack-excess",
             Rule::SampleDue => "sample-due",
+            Rule::AnswerLate => "answer-late",
         }
     }
 }

@@ -66,12 +66,14 @@ fn two_texts_have_the_verdict_of_the_case() {
 
 #[test]
 fn rules_have_numbers() {
-    for (place, rule) in Rule::ALL.into_iter().enumerate() {
-        assert_eq!(rule.number() as usize, place + 1);
+    for rule in Rule::ALL {
         assert_eq!(Rule::numbered(rule.number()), Some(rule));
     }
-    assert_eq!(Rule::numbered(0), None);
-    assert_eq!(Rule::numbered(53), None);
+    assert_eq!(Rule::numbered(52), Some(Rule::AckExcess));
+    assert_eq!(Rule::numbered(57), Some(Rule::AnswerLate));
+    for number in [0, 53, 55, 58] {
+        assert_eq!(Rule::numbered(number), None);
+    }
 }
 
 #[test]

@@ -97,12 +97,13 @@ fn fault_answer(kind: u32, fault: TextFault) -> Answer
     }
 }
 
-// The number of a rule: they follow one another, but for the last one.
+// The number of a rule: they follow one another, but for the last two.
 fn number_of(rule: Rule) -> u32
     ensures { result ≡ rule_number rule }
 {
     match rule {
         Rule::SampleDue => 56,
+        Rule::AnswerLate => 57,
         _ => rule as u32 + 1,
     }
 }

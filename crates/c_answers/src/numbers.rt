@@ -124,6 +124,7 @@ pub(crate) fn rule_numbered(number: u32) -> Option<Rule>
         51 => Rule::ResentBeyond,
         52 => Rule::AckExcess,
         56 => Rule::SampleDue,
+        57 => Rule::AnswerLate,
         _ => return None,
     })
 }

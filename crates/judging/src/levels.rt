@@ -88,6 +88,6 @@ fn is_of_duties(rule: Rule) -> bool {
         Rule::Dropped | Rule::Discarded | Rule::ProcessLate | Rule::SendLate => true,
         Rule::AckLate | Rule::ExpiryLate | Rule::ResendLate | Rule::ProbeLate => true,
         Rule::StartLate | Rule::ResetLate | Rule::Resent | Rule::ResentBeyond => true,
-        Rule::AckExcess | Rule::SampleDue => true,
+        Rule::AckExcess | Rule::SampleDue | Rule::AnswerLate => true,
     }
 }

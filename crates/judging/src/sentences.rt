@@ -126,9 +126,9 @@ fn duty_rules(level: Judged, is_six: bool) -> &'static str {
     match (level, is_six) {
         (Judged::Full, _) => "rules 40 to 52",
         (Judged::Recovery, false) => "rules 40 to 50 and 52",
-        (Judged::Recovery, true) => "rules 40 to 50, 52 and 56",
+        (Judged::Recovery, true) => "rules 40 to 50, 52, 56 and 57",
         (Judged::NoControl, false) => "rules 40 to 49 and 52",
-        (Judged::NoControl, true) => "rules 40 to 49, 52 and 56",
+        (Judged::NoControl, true) => "rules 40 to 49, 52, 56 and 57",
     }
 }
 

@@ -443,5 +443,11 @@ memory pressure",
             rfc: "6298, 3",
             ..PLAIN
         },
+        Rule::AnswerLate => &Meaning {
+            refused: "a call is answered late, though it could be answered",
+            usual: "the stack doesn't wake the thread that waits in recv, await or accept",
+            rfc: "9293, 3.9.1",
+            ..PLAIN
+        },
     }
 }

@@ -243,5 +243,6 @@ fn reason_of(world: &World, step: &Step, rule: Rule) -> Reason {
         Rule::SendLate | Rule::AckLate | Rule::ExpiryLate | Rule::ResendLate => Reason::Other,
         Rule::ProbeLate | Rule::StartLate | Rule::ResetLate | Rule::Resent => Reason::Other,
         Rule::ResentBeyond | Rule::AckExcess | Rule::SampleDue => Reason::Other,
+        Rule::AnswerLate => Reason::Other,
     }
 }

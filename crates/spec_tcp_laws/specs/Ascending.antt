@@ -62,6 +62,7 @@ rule_number rules.Resent = 50
 rule_number rules.ResentBeyond = 51
 rule_number rules.AckExcess = 52
 rule_number rules.SampleDue = 56
+rule_number rules.AnswerLate = 57
 
 -- the numbers of these rules don't fall, and none is below that one
 abbrev pub ascend : ℕ → List (Rule × Bool) → Bool

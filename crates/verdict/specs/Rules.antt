@@ -58,6 +58,7 @@ rule_name rules.Resent = codes "resent"
 rule_name rules.ResentBeyond = codes "resent-beyond"
 rule_name rules.AckExcess = codes "ack-excess"
 rule_name rules.SampleDue = codes "sample-due"
+rule_name rules.AnswerLate = codes "answer-late"
 
 -- the first broken rule of a list; each rule is paired with whether the step breaks it, lowest first
 abbrev pub first_broken : List (Rule × Bool) → Option Rule

@@ -115,6 +115,8 @@ pub enum Rule {
     AckExcess,
     /// A round trip isn't measured, though none was since this data was sent (RFC 6298, 3).
     SampleDue,
+    /// A call that can be answered is answered late (RFC 9293, 3.9.1).
+    AnswerLate,
 }
 
 impl Rule {
@@ -177,6 +179,7 @@ impl Rule {
             Rule::ResentBeyond => "resent-beyond",
             Rule::AckExcess => "ack-excess",
             Rule::SampleDue => "sample-due",
+            Rule::AnswerLate => "answer-late",
         }
     }
 }

@@ -37,6 +37,7 @@ pub(crate) fn compare(out: &mut String, scene: &Scene, rule: Rule) -> Result<(),
         }
         Rule::Socket
         | Rule::CallAnswer
+        | Rule::AnswerLate
         | Rule::Iss
         | Rule::BytesDiffer
         | Rule::NotMade

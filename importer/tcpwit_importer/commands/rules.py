@@ -38,6 +38,7 @@ SECTIONS = {
     "resent-beyond": "5681, 3.1",
     "ack-excess": "5681, 4.2",
     "sample-due": "6298, 3",
+    "answer-late": "9293, 3.9.1",
 }
 
 
