@@ -3,7 +3,7 @@
 use crate::found::{AT_THE_END, Found, Stretch, Who};
 use crate::notes::Note;
 use crate::review::{Review, call_in};
-use crate::waits::{Now, say_late, say_stall};
+use crate::waits::{Now, say_late, say_shut, say_stall};
 use case_forms::{Host, OutOfMemory};
 use endpoint_state::World;
 use plain_words::CallWords;
@@ -74,6 +74,7 @@ impl Note {
         if !is_closed {
             say_late(found, now, self)?;
             say_stall(found, now, self.stall)?;
+            say_shut(found, now, self.shut)?;
         }
         if !is_closed || has_given_up {
             say_unacknowledged(found, now.who, endpoint, self.sent_end)?;

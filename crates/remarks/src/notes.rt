@@ -34,6 +34,8 @@ pub(crate) struct Note {
     /// How many times anything let it retransmit when it last sent a probe again.
     pub probed_at: u64,
     pub stall: Option<Stall>,
+    /// Since when its window is closed although its program was given all that it received. None: it isn't.
+    pub shut: Option<u64>,
     pub permits: Permits,
     /// Since when nothing was sent before the retransmission timer expired last.
     pub waited_from: u64,
@@ -67,6 +69,7 @@ impl Note {
         };
         self.clock = self.clock_of(endpoint, moment);
         self.stall = self.stall_of(endpoint, moment);
+        self.shut = self.shut_of(endpoint, moment);
     }
 
     /// The timer, if it is this one.

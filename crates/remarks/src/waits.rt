@@ -22,7 +22,8 @@ const LONGEST: u64 = 60_000_000;
 // A SYN is retransmitted for at least 3 minutes (RFC 9293, 3.8.3).
 const SYN_LASTS: u64 = 180_000_000;
 
-// Data waits at most a second for a fuller segment (RFC 9293, 3.8.6.2.1).
+// Data waits at most a second for a fuller segment (RFC 9293, 3.8.6.2.1). A window that opens later than that is
+// remarked on, too, though no RFC says when it has to open.
 const OVERRIDE: u64 = 1_000_000;
 
 /// A timer that is armed.
@@ -121,6 +122,15 @@ impl Note {
         let since = self.stall.map_or(moment, |stall| stall.since);
         Some(Stall { since, bytes, room })
     }
+
+    // Since when the window is closed, at a moment, although all that was received was delivered.
+    fn shut_of(&self, endpoint: &Endpoint, moment: u64) -> Option<u64> {
+        let is_offered = self.edge == 0 || endpoint.rcv_nxt() < self.edge;
+        if is_offered || !may_receive(endpoint.state) || endpoint.stream.receive.has_waiting() {
+            return None;
+        }
+        Some(self.shut.unwrap_or(moment))
+    }
 }
 
 // A timeout that doubled so many times (RFC 6298, 5.5; RFC 9293, 3.8.6.1), at most the longest.
@@ -160,6 +170,14 @@ fn may_send(state: State) -> bool {
     matches!(
         state,
         State::Established | State::FinWait1 | State::CloseWait | State::Closing | State::LastAck
+    )
+}
+
+// Whether bytes may come in a state.
+fn may_receive(state: State) -> bool {
+    matches!(
+        state,
+        State::Established | State::FinWait1 | State::FinWait2
     )
 }
 
@@ -244,6 +262,9 @@ fn say_ended(found: &mut Found, now: Now, before: &Note, after: &Note) -> Result
     if after.stall.is_none() {
         say_stall(found, now, before.stall)?;
     }
+    if after.shut.is_none() {
+        say_shut(found, now, before.shut)?;
+    }
     Ok(())
 }
 
@@ -288,4 +309,17 @@ pub(crate) fn say_stall(
     }
     let what = &format_args!("{} with the window open: {stall}", Time(time));
     found.add(now.line, now.who, "sends nothing for", what)
+}
+
+/// Remarks on a window that was closed for long, since a moment, with nothing left to deliver.
+pub(crate) fn say_shut(found: &mut Found, now: Now, since: Option<u64>) -> Result<(), OutOfMemory> {
+    let Some(since) = since else {
+        return Ok(());
+    };
+    let time = now.moment.saturating_sub(since);
+    if time <= OVERRIDE {
+        return Ok(());
+    }
+    let what = &format_args!("{} although all bytes were delivered", Time(time));
+    found.add(now.line, now.who, "keeps its window closed for", what)
 }
