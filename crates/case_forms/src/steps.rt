@@ -85,8 +85,8 @@ pub enum Label<Taken> {
         host: Host,
         line: u64,
     },
-    /// `F h lp rp cwnd ssthresh`: an endpoint of host h enters fast recovery (RFC 5681, 3.2). `U h lp rp cwnd ssthresh`:
-    /// it undoes a recovery (RFC 4015, 3.2).
+    /// `F h lp rp cwnd ssthresh`: an endpoint of host h enters fast recovery (RFC 5681, 3.2). `U h lp rp cwnd
+    /// ssthresh`: it undoes a recovery (RFC 4015, 3.2).
     F {
         host: Host,
         recovery: Recovery,

@@ -16,8 +16,8 @@ use spec_tcp::Endpoint;
 use verdict::Rule;
 use window_rules::GREATEST_WINDOW;
 
-/// Whether fast recovery may begin at an endpoint, with this congestion window and slow start threshold (in bytes). None
-/// is undone. The error is the first rule that is broken.
+/// Whether fast recovery may begin at an endpoint, with this congestion window and slow start threshold (in bytes).
+/// None is undone. The error is the first rule that is broken.
 pub fn admits_recovery(
     endpoint: &Endpoint,
     change: RecoveryChange,

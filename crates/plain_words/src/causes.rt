@@ -187,8 +187,8 @@ there, or has it later",
                 "the stack gives up after fewer than three expiries, or with nothing outstanding",
             Known::IsUndone => "the witness undoes a recovery, which the model doesn't permit",
             Known::ProbesForLoss =>
-                "the trace shows a probe for a loss, which the model doesn't permit: without the line, the segment that \
-is sent again needs another reason",
+                "the trace shows a probe for a loss, which the model doesn't permit: without the line, the segment \
+that is sent again needs another reason",
             Known::NothingNew =>
                 "the witness has sample 1 for a reset, or for a segment that acknowledges nothing new",
             Known::NotRestarted =>

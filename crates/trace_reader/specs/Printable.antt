@@ -23,8 +23,8 @@ use Rattle.trace_reader.specs.EventLines.{line_pieces}
 abbrev pub HasBytes : Line → Type 0
 HasBytes l = AllByRecursion IsBytePiece (event_pieces l.event)
 
--- the numbers and the event of a line are within the limits of this version (only host 0 in a half case, the timer `pto`
--- from version 6 on), and its bytes are bytes
+-- the numbers and the event of a line are within the limits of this version (only host 0 in a half case, the timer
+-- `pto` from version 6 on), and its bytes are bytes
 pub record IsPrintableLine (v : Version) (l : Line) : Type 0 where
   pub moment : l.moment ≤ 1000000000000000000
   pub thread : l.thread ≤ 4294967295
