@@ -123,8 +123,8 @@ impl Note {
         Some(Stall { since, bytes, room })
     }
 
-    // Since when the window is closed, at a moment, although all that was received was delivered.
-    fn shut_of(&self, endpoint: &Endpoint, moment: u64) -> Option<u64> {
+    /// Since when the window is closed, at a moment, although all that was received was delivered. None: it isn't.
+    pub(crate) fn shut_of(&self, endpoint: &Endpoint, moment: u64) -> Option<u64> {
         let is_offered = self.edge == 0 || endpoint.rcv_nxt() < self.edge;
         if is_offered || !may_receive(endpoint.state) || endpoint.stream.receive.has_waiting() {
             return None;
