@@ -108,8 +108,12 @@ def runs(numbers):
 
 
 def said(numbers):
-    """The numbers in words, such as `1 to 52, or 56`."""
-    return ", or ".join(str(first) if first == last else f"{first} to {last}" for first, last in runs(numbers))
+    """The numbers in words, such as `1 to 52, 56 or 57`."""
+    words = []
+    for first, last in runs(numbers):
+        words += [f"{first} to {last}"] if first + 1 < last else sorted({first, last})
+    *others, last = map(str, words)
+    return f"{', '.join(others)} or {last}" if others else last
 
 
 def spanned(numbers):

@@ -47,13 +47,17 @@ class Names(unittest.TestCase):
         python, rust = rule_names.files(rules).values()
         self.assertIn('\n    FIRST_ONE = "first-one"\n    SECOND = "second"\n    LATER = "later"\n\n', python)
         self.assertIn("NUMBERS = (*range(1, 3), 5)\n", python)
-        self.assertIn("number: 1 to 2, or 5.", python)
+        self.assertIn("number: 1, 2 or 5.", python)
         self.assertIn("{\n    /// It is first.\n    FirstOne = 1,\n    /// It is second.\n    Second = 2,\n",
                       rust)
         self.assertIn("ALL: [Rule; 3] = [\n        Rule::FirstOne,\n        Rule::Second,\n        Rule::Later,\n",
                       rust)
         self.assertIn('{\n            Rule::FirstOne => "first-one",\n            Rule::Second => "second",\n',
                       rust)
+
+    def test_numbers_in_words(self):
+        self.assertEqual(rule_names.said([*range(1, 53), 56, 57]), "1 to 52, 56 or 57")
+        self.assertEqual(rule_names.said([1, 2, 3]), "1 to 3")
 
 
 if __name__ == "__main__":

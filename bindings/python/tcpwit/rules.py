@@ -67,5 +67,5 @@ class Rule(enum.Enum):
 
     @property
     def number(self) -> int:
-        """The rule's number: 1 to 52, or 56 to 57."""
+        """The rule's number: 1 to 52, 56 or 57."""
         return NUMBERS[list(Rule).index(self)]

@@ -174,12 +174,12 @@ impl Rule {
         Rule::AnswerLate,
     ];
 
-    /// The rule with this number: 1 to 52, or 56 to 57.
+    /// The rule with this number: 1 to 52, 56 or 57.
     pub fn numbered(number: u32) -> Option<Rule> {
         Self::ALL.into_iter().find(|rule| rule.number() == number)
     }
 
-    /// Its number: 1 to 52, or 56 to 57.
+    /// Its number: 1 to 52, 56 or 57.
     pub fn number(self) -> u32 {
         self as u32
     }
