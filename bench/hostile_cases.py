@@ -895,6 +895,51 @@ def segments_never_sent(case, count):
     return case
 
 
+@kind(75_000, 150_000, 300_000)
+def stricter_acknowledgments_of_copies(count):
+    """Copies of one byte permit as many acknowledgments, which are all sent at the end."""
+    case, connection = Case(header=STRICT_HEADER), Connection()
+    opener, _, _ = connected(case, connection)
+    send_all(case, opener, 1)
+    text = connection.text(0, 1, "A", 1, b"\0")
+    out = case.goes(0, text, case.make(connection, 0, 1, 1, "A"))
+    first, *others = [case.comes(1, text, out) for _ in range(count)]
+    case.take(1, first, INITIAL_WINDOW, keep=1)
+    for line in others:
+        case.step(f"K 1 {line}")
+    made = [case.make(connection, 1, 1, 0, "A") for _ in range(count)]
+    for number in made:
+        case.goes(1, connection.text(1, 1, "A", 2), number)
+    return case
+
+
+@kind(50_000, 100_000, 200_000)
+def stricter_threads_that_wait_at_one_socket(count):
+    """Each of them receives one byte, in any order."""
+    case, connection = Case(header=STRICT_HEADER), Connection()
+    opener, child, sent = connected(case, connection, INITIAL_WINDOW)
+    threads = [20 + 3 * index for index in range(count)]
+    for thread in threads:
+        case.event(thread, f"B recv {child} 1")
+    send_all(case, opener, count)
+    random.Random(1).shuffle(threads)
+    for thread, (text, out) in zip(threads, outstanding(case, connection, sent, count)):
+        case.take(1, case.comes(1, text, out), INITIAL_WINDOW, keep=1)
+        case.step(f"D {thread} data 00")
+        case.event(thread, "E data 00")
+    return case
+
+
+@kind(30_000, 60_000, 120_000)
+def stricter_threads_that_wait_at_listeners(count):
+    """The end looks at all of them."""
+    case = Case(header=STRICT_HEADER)
+    for index in range(count):
+        socket = case.given(1, f"listen {index % 2} {1 + index // 2} 1")
+        case.event(20 + 3 * index, f"B accept {socket}")
+    return case
+
+
 @kind(7_500, 15_000, 30_000)
 def watched_children_half_open(count):
     """Each counts for its listener until that is closed."""
