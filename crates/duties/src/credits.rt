@@ -113,7 +113,7 @@ fn oldest(more: &BTreeMap<u128, u64>, place: u32, moment: u64) -> Option<(u128, 
 
 /// The moment of the oldest credit that serves for a segment which was built at this one.
 #[inline(always)]
-pub(crate) fn earliest_credit(slack: u64, built: u64) -> u64
+pub fn earliest_credit(slack: u64, built: u64) -> u64
     ensures { result ≡ earliest_credit slack built }
 {
     built.saturating_sub(LONGEST_DELAY).saturating_sub(slack)

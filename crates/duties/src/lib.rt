@@ -39,6 +39,7 @@ mod strict_tables;
 mod views;
 
 pub use acknowledge::acknowledge_due;
+pub use credits::earliest_credit;
 pub use deadlines::{is_late, is_late_at_once, judged_slack};
 pub use dropped::{
     Target, acknowledges_less, asks, discards, dropping_of, has_content, is_below_irs,
