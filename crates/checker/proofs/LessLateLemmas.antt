@@ -67,10 +67,10 @@ explained_with slack t w at e =
       run = run;
       duties =
           subst (λ (xs : List (Stamped tcp_shape)). Dutiful (with_slack slack t.header) (first_known (with_slack slack t.header)) xs) (sym same)
-          (dutiful_with t.header.slack slack t.header (first_known t.header) (stamped t.header t.lines w.steps) at e.duties);
+          (dutiful_with t.header.slack slack t.header (stamped t.header t.lines w.steps) at e.duties);
       in_time =
           ap (λ (xs : List (Stamped tcp_shape)). late (known_after_all (with_slack slack t.header) (first_known t.header) xs)) same
-          ∙ end_with t.header.slack slack t.header (first_known t.header) (stamped t.header t.lines w.steps) (last_moment (moves w.steps)) at e.in_time;
+          ∙ end_with t.header.slack slack t.header (stamped t.header t.lines w.steps) (last_moment (moves w.steps)) at e.duties e.in_time;
     }
   where
     late : Known → Option (ℕ × Rule)

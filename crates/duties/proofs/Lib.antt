@@ -1,2 +1,4 @@
+mod CreditLemmas
+mod CreditRuns
 mod EdgeLemmas
 pub mod SlackLemmas

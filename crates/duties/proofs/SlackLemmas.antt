@@ -1,5 +1,5 @@
 -- The slack: without one nothing is owed, and with a greater one more is accepted.
-use Rattle.std.proofs.Common.{◌≡◌, ℕ, suc, ◌≤◌, Bool, true, false, List, [], ◌∷◌, Option, None, Some, refl, ap, arith}
+use Rattle.std.proofs.Common.{◌≡◌, ℕ, suc, ◌≤◌, Bool, true, false, List, [], ◌∷◌, Option, None, Some, refl, ap, sym, subst, ◌∙◌, arith}
 use Rattle.std.specs.Prelude.{not, ◌&&◌, ◌||◌, if◌then◌else◌, is_some}
 use Rattle.std.specs.Option.{option_map, option_map_or}
 use Rattle.case_forms.specs.States.{is_closed}
@@ -8,14 +8,19 @@ use Rattle.case_forms.specs.declared.calls.Host.{Host}
 use Rattle.case_forms.specs.declared.calls.Host.TheVariants.{Zero, One}
 use Rattle.case_forms.specs.declared.trace.Header.{Header}
 use Rattle.verdict.specs.Rules.{first_broken}
+use Rattle.verdict.proofs.RuleLemmas.{none_all}
+use Rattle.std.specs.List.{AllByRecursion}
+use Rattle.duties.proofs.CreditRuns.{left_earned, left_exchanged, left_some, left_wider, order_earned, order_spent, some_left}
 use Rattle.verdict.specs.declared.rule.Rule.{Rule}
 use Rattle.spec_network.specs.Hosts.{Stamped, World}
-use Rattle.spec_network.specs.Tables.{on, waiting}
+use Rattle.spec_network.specs.Tables.{Both, on, pick, waiting, with_host}
 use Rattle.spec_tcp.specs.Machine.{tcp_shape}
 use Rattle.spec_tcp.specs.declared.endpoint.Endpoint.{Endpoint}
 use Rattle.spec_duties.specs.Acknowledge.{acknowledge_due}
-use Rattle.spec_duties.specs.Cases.{Known, Dutiful, judged_rules, known_after, late_at_end}
+use Rattle.spec_duties.specs.Cases.{Known, Dutiful, judged_rules, known_after, late_at_end, noted_by}
+use Rattle.spec_duties.specs.Credits.{credit_of, earliest_credit, has_credit, spent}
 use Rattle.spec_duties.specs.Deadlines.{is_late}
+use Rattle.spec_duties.specs.Excess.{is_excess}
 use Rattle.spec_duties.specs.End as end
 use Rattle.spec_duties.specs.End.{any_unsent, either, end_rules, first_waiting, is_brought_late, is_send_late, lates_at, lates_from, lates_of_all}
 use Rattle.spec_duties.specs.Expire.{expiry_due}
@@ -23,12 +28,12 @@ use Rattle.spec_duties.specs.Owed.{lates_of, lates_of_open, none_late}
 use Rattle.spec_duties.specs.Probe.{probing_due}
 use Rattle.spec_duties.specs.Reset.{reset_since}
 use Rattle.spec_duties.specs.Observations.{observe}
-use Rattle.spec_duties.specs.Slack.{AtMost, LessLateIsMoreAccepted, NothingIsJudged, SlackIsNotNoted, with_slack}
+use Rattle.spec_duties.specs.Slack.{AtMost, HasMoreCredits, LessLateIsMoreAccepted, NothingIsJudged, SlackIsHardlyNoted, AreInOrder, credits_left, with_slack}
 use Rattle.spec_duties.specs.Start.{start_due}
 use Rattle.spec_duties.specs.Strict.{coarse_expiry_due, coarse_probing_due, strict_lates, with_brought}
 use Rattle.spec_duties.specs.Views.{view_of}
-use Rattle.spec_duties.specs.Watching.{Duties, brought_by, built_by, counts_now, duty_rules, judged_lates, leaves_late, listener_closed, owed_by, sent_late}
-use Rattle.spec_duties.specs.Watching.{strict_by, touched_rules}
+use Rattle.spec_duties.specs.Watching.{Duties, brought_by, built_by, counts_now, credits_after, credits_earned, credits_spent, duty_rules, judged_lates, lacks_credit}
+use Rattle.spec_duties.specs.Watching.{leaves_late, listener_closed, owed_by, sends_in_excess, sent_by, sent_late, strict_by, touched_rules}
 use Rattle.spec_duties.specs.declared.owed.Lates.{Lates}
 use Rattle.spec_duties.specs.declared.owed.Owed.{Owed}
 use Rattle.spec_duties.specs.declared.observations.InboxChange.{InboxChange}
@@ -58,9 +63,6 @@ late_any h moment k any = ap (λ o. on o None (λ slack. end.late_at_end h slack
 
 pub nothing_is_judged : NothingIsJudged
 nothing_is_judged = record { rules = nothing_judged; runs = dutiful_any; end = late_any }
-
-pub slack_is_not_noted : SlackIsNotNoted
-slack_is_not_noted h a b moment w s d = refl
 
 -- ---- with a greater one
 
@@ -214,22 +216,70 @@ sent_less : (slack more moment : ℕ) (b : Option Built) → slack ≤ more → 
 sent_less slack more moment None le e = refl
 sent_less slack more moment (Some b) le e = late_less slack more moment (Some b.since) le e
 
-touched_less : (h : Header) (slack more moment : ℕ) (d : Duties) (counts : Bool) (brought : Option ℕ) (s : Sampling) (o : Option TouchedEndpoint)
-    → slack ≤ more
-    → AreFewer (on o [] (touched_rules (with_slack (Some slack) h) slack moment d counts brought s))
-    (on o [] (touched_rules (with_slack (Some more) h) more moment d counts brought s))
-touched_less h slack more moment d counts brought s None le = tt
-touched_less h slack more moment d counts brought s (Some t) le =
-    let l = judged_less h slack more moment d brought t.host t.place t.before le in
-    (l.acknowledge, (l.expire, (l.retransmit, (l.probe, (l.start, (l.reset, (λ e. e, (λ e. e, (λ e. e, (λ e. e, tt))))))))))
+-- the same, but for credits
+abbrev pub with_credits : Both (List ℕ) → Duties → Duties
+with_credits c d = record d { credits = c }
 
-step_less : (less more : Option ℕ) → AtMost less more → (h : Header) (moment : ℕ) (d : Duties) (s : Observation)
+-- of each endpoint at least as many credits are left
+abbrev pub AreMore : (few many : Both (List ℕ)) → Type 0
+AreMore few many = (host : Host) (place moment : ℕ) → credits_left place moment (pick few host) ≤ credits_left place moment (pick many host)
+
+earlier : (slack more built : ℕ) → slack ≤ more → earliest_credit more built ≤ earliest_credit slack built
+earlier slack more built le = omega (arith, le)
+
+has_more : (slack more place built : ℕ) (few many : List ℕ) → slack ≤ more
+    → ((moment : ℕ) → credits_left place moment few ≤ credits_left place moment many)
+    → has_credit place (earliest_credit slack built) few ≡ true → has_credit place (earliest_credit more built) many ≡ true
+has_more slack more place built few many le left some =
+    let here = left_some place (earliest_credit slack built) few some in
+    let there = left (earliest_credit slack built) in
+    let wide = left_wider place (earliest_credit more built) (earliest_credit slack built) many (earlier slack more built le) in
+    some_left place (earliest_credit more built) many (omega (arith, here, there, wide))
+
+lacks_less : (slack more : ℕ) (d : Duties) (c : Both (List ℕ)) (host : Host) (place : ℕ) (u : Unsent) → slack ≤ more → AreMore d.credits c
+    → lacks_credit slack d host place u ≡ false → lacks_credit more (with_credits c d) host place u ≡ false
+lacks_less slack more d c host place u le left = by u.costs (has_credit place (earliest_credit slack u.since) (pick d.credits host)) refl
+  where
+    by : (costs some : Bool) → has_credit place (earliest_credit slack u.since) (pick d.credits host) ≡ some → costs && not some ≡ false
+        → costs && not (has_credit place (earliest_credit more u.since) (pick c host)) ≡ false
+    by false some is e = refl
+    by true false is e = absurd cc
+    by true true is e = rw (has_more slack more place u.since (pick d.credits host) (pick c host) le (left host place) is) refl
+
+excess_less : (h : Header) (slack more : ℕ) (d : Duties) (c : Both (List ℕ)) (sent : Option Unsent) (t : TouchedEndpoint) → slack ≤ more
+    → AreMore d.credits c → sends_in_excess (with_slack (Some slack) h) slack d sent t ≡ false
+    → sends_in_excess (with_slack (Some more) h) more (with_credits c d) sent t ≡ false
+excess_less h slack more d c sent t le left = by (says_sender h.version) sent
+  where
+    by : (six : Bool) (sent : Option Unsent) → six && option_map_or (lacks_credit slack d t.host t.place) sent false ≡ false
+        → six && option_map_or (lacks_credit more (with_credits c d) t.host t.place) sent false ≡ false
+    by false sent e = refl
+    by true None e = refl
+    by true (Some u) e = lacks_less slack more d c t.host t.place u le left e
+
+touched_less : (h : Header) (slack more moment : ℕ) (d : Duties) (c : Both (List ℕ)) (counts : Bool) (sent : Option Unsent) (s : Sampling)
+    (o : Option TouchedEndpoint)
+    → slack ≤ more
+    → AreMore d.credits c
+    → AreFewer (on o [] (touched_rules (with_slack (Some slack) h) slack moment d counts sent s))
+    (on o [] (touched_rules (with_slack (Some more) h) more moment (with_credits c d) counts sent s))
+touched_less h slack more moment d c counts sent s None le left = tt
+touched_less h slack more moment d c counts sent s (Some t) le left =
+    let l = judged_less h slack more moment d (brought_by sent) t.host t.place t.before le in
+    let excess =
+    or_less (is_excess counts (owed_by d t.host t.place).answers) (sends_in_excess (with_slack (Some slack) h) slack d sent t)
+    (is_excess counts (owed_by d t.host t.place).answers) (sends_in_excess (with_slack (Some more) h) more (with_credits c d) sent t)
+    (λ e. e) (excess_less h slack more d c sent t le left) in
+    (l.acknowledge, (l.expire, (l.retransmit, (l.probe, (l.start, (l.reset, (λ e. e, (λ e. e, (excess, (λ e. e, tt))))))))))
+
+step_less : (less more : Option ℕ) → AtMost less more → (h : Header) (moment : ℕ) (d : Duties) (c : Both (List ℕ)) (s : Observation)
+    → AreMore d.credits c
     → first_broken (judged_rules (with_slack less h) moment d s) ≡ None
-    → first_broken (judged_rules (with_slack more h) moment d s) ≡ None
-step_less less None at h moment d s e = refl
-step_less None (Some more) at h moment d s e = absurd at
-step_less (Some slack) (Some more) at h moment d s e =
-    fewer_none (duty_rules (with_slack (Some slack) h) slack moment d s) (duty_rules (with_slack (Some more) h) more moment d s) (
+    → first_broken (judged_rules (with_slack more h) moment (with_credits c d) s) ≡ None
+step_less less None at h moment d c s left e = refl
+step_less None (Some more) at h moment d c s left e = absurd at
+step_less (Some slack) (Some more) at h moment d c s left e =
+    fewer_none (duty_rules (with_slack (Some slack) h) slack moment d s) (duty_rules (with_slack (Some more) h) more moment (with_credits c d) s) (
       λ e. e,
       (
         λ e. e,
@@ -237,8 +287,8 @@ step_less (Some slack) (Some more) at h moment d s e =
           leaves_less slack more moment d s.inbox_change at,
           (
             sent_less slack more moment (built_by d s.built_change) at,
-            touched_less h slack more moment d
-                (counts_now (built_by d s.built_change)) (brought_by d s.built_change) s.sampling s.touched at,
+            touched_less h slack more moment d c
+                (counts_now (built_by d s.built_change)) (sent_by d s.built_change) s.sampling s.touched at left,
           ),
         ),
       ),
@@ -324,5 +374,123 @@ end_less (Some slack) (Some more) at h moment k e =
     (mapped_none _ (first_broken (end_rules (with_slack (Some slack) h) slack moment k.duties k.model)) e) in
     ap (option_map (λ rule. (end.line_of (first_waiting more moment k.duties.inbox) rule, rule))) none
 
+-- the whole of it
 pub less_late : (less more : Option ℕ) → AtMost less more → LessLateIsMoreAccepted less more
-less_late less more at = record { steps = step_less less more at; end = end_less less more at }
+less_late less more at = record {
+  steps =
+      λ h moment few many s has e.
+      ap (λ (d : Duties). first_broken (judged_rules (with_slack more h) moment d s)) has.same
+      ∙ step_less less more at h moment few many.credits s has.left e;
+  end =
+      λ h moment w few many has e.
+      ap (λ (d : Duties). late_at_end (with_slack more h) moment (record { model = w; duties = d })) has.same
+      ∙ end_less less more at h moment (record { model = w; duties = few }) e;
+}
+
+-- ---- what is kept
+
+-- no acknowledgment lacked a credit
+none_lacks : (h : Header) (slack moment : ℕ) (d : Duties) (s : Observation) (t : TouchedEndpoint) → s.touched ≡ Some t
+    → first_broken (duty_rules h slack moment d s) ≡ None → sends_in_excess h slack d (sent_by d s.built_change) t ≡ false
+none_lacks h slack moment d s t shows none =
+    let rules = (none_all (duty_rules h slack moment d s) none).1.1.1.1 in
+    let here =
+    subst (λ (o : Option TouchedEndpoint). AllByRecursion (λ r. r.1 ≡ false) (on o [] (touched_rules h slack moment d
+    (counts_now (built_by d s.built_change)) (sent_by d s.built_change) s.sampling))) shows rules in
+    second (is_excess (counts_now (built_by d s.built_change)) (owed_by d t.host t.place).answers) _ here.1.1.1.1.1.1.1.1.0
+  where
+    second : (a b : Bool) → a || b ≡ false → b ≡ false
+    second true b e = absurd cc
+    second false b e = e
+
+-- the credits of the endpoint that a step touches
+spent_more : (six : Bool) (less more : ℕ) (d : Duties) (c : Both (List ℕ)) (sent : Option Unsent) (t : TouchedEndpoint) → less ≤ more → AreMore d.credits c
+    → AreInOrder (pick c t.host) → option_map_or (lacks_credit less d t.host t.place) sent false ≡ false
+    → (place moment : ℕ)
+    → credits_left place moment (credits_spent less t.place sent (pick d.credits t.host))
+    ≤ credits_left place moment (credits_spent more t.place sent (pick c t.host))
+spent_more six less more d c None t le left order lacks = left t.host
+spent_more six less more d c (Some u) t le left order lacks =
+    by u.costs (has_credit t.place (earliest_credit less u.since) (pick d.credits t.host)) refl lacks
+  where
+    by : (costs some : Bool) → has_credit t.place (earliest_credit less u.since) (pick d.credits t.host) ≡ some → costs && not some ≡ false
+        → (place moment : ℕ)
+        → credits_left place moment (if costs then spent t.place (earliest_credit less u.since) (pick d.credits t.host) else pick d.credits t.host)
+        ≤ credits_left place moment (if costs then spent t.place (earliest_credit more u.since) (pick c t.host) else pick c t.host)
+    by false some is lacks = left t.host
+    by true false is lacks = absurd cc
+    by true true is lacks =
+        left_exchanged t.place (earliest_credit more u.since) (earliest_credit less u.since) (pick d.credits t.host) (pick c t.host)
+        (earlier less more u.since le) order is (left t.host)
+
+spent_order : (more place : ℕ) (sent : Option Unsent) (xs : List ℕ) → AreInOrder xs → AreInOrder (credits_spent more place sent xs)
+spent_order more place None xs order = order
+spent_order more place (Some u) xs order = by u.costs
+  where
+    by : (costs : Bool) → AreInOrder (if costs then spent place (earliest_credit more u.since) xs else xs)
+    by true = order_spent place (earliest_credit more u.since) xs order
+    by false = order
+
+earned_more : (earns : Bool) (now place : ℕ) (few many : List ℕ) → ((p m : ℕ) → credits_left p m few ≤ credits_left p m many)
+    → (p m : ℕ) → credits_left p m (credits_earned earns now place few) ≤ credits_left p m (credits_earned earns now place many)
+earned_more true now place few many left p m =
+    let a = left_earned p m (credit_of place now) few in
+    let b = left_earned p m (credit_of place now) many in
+    let le = left p m in
+    omega (arith, a, b, le)
+earned_more false now place few many left p m = left p m
+
+earned_order : (earns : Bool) (now place : ℕ) (xs : List ℕ) → AreInOrder xs → AreInOrder (credits_earned earns now place xs)
+earned_order true now place xs order = order_earned (credit_of place now) xs order
+earned_order false now place xs order = order
+
+-- those of a host, if those of one are written
+written_more : (few many : Both (List ℕ)) (host : Host) (xs ys : List ℕ) → AreMore few many
+    → ((p m : ℕ) → credits_left p m xs ≤ credits_left p m ys) → AreMore (with_host few host xs) (with_host many host ys)
+written_more few many Zero xs ys left here Zero = here
+written_more few many Zero xs ys left here One = left One
+written_more few many One xs ys left here Zero = left Zero
+written_more few many One xs ys left here One = here
+
+written_order : (many : Both (List ℕ)) (host : Host) (ys : List ℕ) → ((at : Host) → AreInOrder (pick many at)) → AreInOrder ys
+    → (at : Host) → AreInOrder (pick (with_host many host ys) at)
+written_order many Zero ys order here Zero = here
+written_order many Zero ys order here One = order One
+written_order many One ys order here Zero = order Zero
+written_order many One ys order here One = here
+
+-- those after a step
+module _ (h : Header) (less more moment : ℕ) (s : Observation) (d : Duties) (c : Both (List ℕ)) (le : less ≤ more) (left : AreMore d.credits c)
+    (order : (host : Host) → AreInOrder (pick c host)) where
+  abbrev credits_by : Bool → Option TouchedEndpoint → ℕ → Duties → Both (List ℕ)
+  credits_by six o slack d = if six then on o d.credits (credits_after slack moment d (sent_by d s.built_change) s.earns) else d.credits
+
+  after_more : (six : Bool) (o : Option TouchedEndpoint)
+      → ((t : TouchedEndpoint) → o ≡ Some t → six && option_map_or (lacks_credit less d t.host t.place) (sent_by d s.built_change) false ≡ false)
+      → AreMore (credits_by six o less d) (credits_by six o more (with_credits c d))
+  after_more false o lacks = left
+  after_more true None lacks = left
+  after_more true (Some t) lacks =
+      written_more d.credits c t.host _ _ left
+      (earned_more s.earns moment t.place _ _
+      (spent_more true less more d c (sent_by d s.built_change) t le left (order t.host) (lacks t refl)))
+
+  after_order : (six : Bool) (o : Option TouchedEndpoint) → (host : Host) → AreInOrder (pick (credits_by six o more (with_credits c d)) host)
+  after_order false o = order
+  after_order true None = order
+  after_order true (Some t) =
+      written_order c t.host _ order
+      (earned_order s.earns moment t.place _ (spent_order more t.place (sent_by d s.built_change) (pick c t.host) (order t.host)))
+
+  hardly_noted : (w : World tcp_shape) → first_broken (judged_rules (with_slack (Some less) h) moment d s) ≡ None
+      → HasMoreCredits (noted_by (with_slack (Some less) h) moment w s d) (noted_by (with_slack (Some more) h) moment w s (with_credits c d))
+  hardly_noted w none = record {
+    same = refl;
+    left = after_more (says_sender h.version) s.touched (λ t shows. none_lacks (with_slack (Some less) h) less moment d s t shows none);
+    order = after_order (says_sender h.version) s.touched;
+  }
+
+pub slack_is_hardly_noted : SlackIsHardlyNoted
+slack_is_hardly_noted h less more moment w s few many le has none =
+    subst (λ (d : Duties). HasMoreCredits (noted_by (with_slack (Some less) h) moment w s few) (noted_by (with_slack (Some more) h) moment w s d))
+    (sym has.same) (hardly_noted h less more moment s few many.credits le has.left has.order w none)

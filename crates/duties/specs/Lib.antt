@@ -1,3 +1,4 @@
+pub mod CreditCounts
 pub mod HostTables
 pub mod Lending
 pub mod StrictTables

@@ -29,8 +29,9 @@ fn receives(state: State) -> bool
     }
 }
 
+/// Whether an endpoint sent a segment with ACK half a second ago or later.
 #[inline(always)]
-fn answered_lately(moment: u64, acknowledged: Option<u64>) -> bool
+pub(crate) fn answered_lately(moment: u64, acknowledged: Option<u64>) -> bool
     ensures { result ≡ answered_lately moment acknowledged }
 {
     match acknowledged {

@@ -1,7 +1,7 @@
 //! The slack: with a greater one more is accepted, and without one everything is.
 
 ghost use Rattle.std.specs.Prelude.{Option, ℕ};
-ghost use Rattle.spec_duties.specs.Slack.{AtMost, LessLateIsMoreAccepted, NothingIsJudged, SlackIsNotNoted};
+ghost use Rattle.spec_duties.specs.Slack.{AtMost, LessLateIsMoreAccepted, NothingIsJudged, SlackIsHardlyNoted};
 
 /// Without a slack no duty refuses a step, and none is late at the end.
 pub fn nothing_is_judged()
@@ -14,7 +14,7 @@ pub fn less_late_is_more_accepted()
     ensures { (less more : Option ℕ) → AtMost less more → LessLateIsMoreAccepted less more }
 {}
 
-/// What duties keep doesn't depend on the slack.
-pub fn slack_is_not_noted()
-    ensures { SlackIsNotNoted }
+/// What duties keep depends on the slack in credits alone: with a greater one, at least as many are left.
+pub fn slack_is_hardly_noted()
+    ensures { SlackIsHardlyNoted }
 {}

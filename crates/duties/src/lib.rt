@@ -8,7 +8,7 @@
 //! - `steps`: the rules of a step, and what is kept after it; `steps/strict`: the same for the stricter duties
 //! - `owed`: what an endpoint owes; `acknowledge`, `expire`, `retransmit`, `probe`, `start`, `reset`: a duty each
 //! - `strict`: the duties that version 6 changes; `strict_tables`: what is kept for them
-//! - `resent`, `excess`: the limits; `sampling`: when round trips are measured at least
+//! - `resent`, `excess`, `credits`: the limits; `sampling`: when round trips are measured at least
 //! - `dropped`: which segments may be dropped, and what a dropped one asks for
 //! - `views`, `deadlines`: what duties read of an endpoint; when one is late
 //! - `per_host`: a value for each host
@@ -19,6 +19,7 @@
 #![tactic(auto)]
 
 mod acknowledge;
+mod credits;
 mod deadlines;
 mod dropped;
 mod excess;
@@ -38,13 +39,14 @@ mod strict_tables;
 mod views;
 
 pub use acknowledge::acknowledge_due;
+pub use credits::earliest_credit;
 pub use deadlines::{is_late, is_late_at_once, judged_slack};
 pub use dropped::{
     Target, acknowledges_less, asks, discards, dropping_of, has_content, is_below_irs,
     is_challenged, meets_closed_window, processing_place, reads_old_numbers,
 };
 pub use expire::expiry_due;
-pub use laws::{less_late_is_more_accepted, nothing_is_judged, slack_is_not_noted};
+pub use laws::{less_late_is_more_accepted, nothing_is_judged, slack_is_hardly_noted};
 pub use owed::{admits_lates, either, lates_of, none_late};
 pub use probe::probing_due;
 pub use reset::reset_since;

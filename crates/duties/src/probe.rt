@@ -15,8 +15,9 @@ use timer_rules::LONGEST_RTO;
 /// No factor is greater.
 const GREATEST_FACTOR: u32 = 67_108_864;
 
+/// Whether the offered window is closed, and bytes wait or are outstanding.
 #[inline(always)]
-fn is_closed_with_work(v: &View) -> bool
+pub(crate) fn is_closed_with_work(v: &View) -> bool
     ensures { result ≡ is_closed_with_work v.now }
 {
     is_up(v) && v.snd_wnd == 0 && v.snd_una < v.end

@@ -1,7 +1,7 @@
 //! The rules of duties at a step, and what is kept after it.
 //! `lib.rt` says why functions here are inlined.
 
-ghost use Rattle.std.specs.Prelude.{◌≡◌, ◌++◌, false, nat_eq, unwrap_or, OnOk};
+ghost use Rattle.std.specs.Prelude.{◌≡◌, ◌++◌, ℕ, false, nat_eq, unwrap_or, OnOk};
 ghost use Rattle.std.specs.Map.{lookup};
 ghost use Rattle.std.specs.Option.{option_map, option_map_or};
 ghost use Rattle.std.specs.Result.{result_err};
@@ -9,7 +9,7 @@ ghost use Rattle.indexmap.specs.IndexMap.{insert_entry};
 ghost use Rattle.verdict.specs.Rules.{first_broken};
 ghost use Rattle.spec_network.specs.Tables.{on, pick, waiting};
 ghost use Rattle.spec_duties.specs.Owed.{late_rules, lates_of, nothing, owed_after};
-ghost use Rattle.spec_duties.specs.Watching.{brought_by};
+ghost use Rattle.spec_duties.specs.Watching.{sends_in_excess, sent_by};
 ghost use Rattle.spec_duties.specs.Watching.{built_after, built_by, builds_mere_ack, closed_at, counts_for, counts_now};
 ghost use Rattle.spec_duties.specs.Watching.{drops_needed, duties_after, duty_rules, inbox_after, is_needed};
 ghost use Rattle.spec_duties.specs.Watching.{is_droppable};
@@ -19,6 +19,7 @@ ghost use Rattle.spec_duties.specs.Watching.{queued, sent_late, start, touched_r
 
 mod strict;
 
+use self::strict::brought_by;
 use crate::deadlines::is_late_at_once;
 use crate::excess::{is_excess, is_mere_ack, one_more};
 use crate::owed::{admits_lates, admits_owed, nothing, owed_after, owed_open};
@@ -60,6 +61,7 @@ impl Model for Duties {
       built = a.built.entries;
       strict = a.strict.owed;
       unsent = a.strict.unsent;
+      credits = a.strict.credits;
     } };
 }
 
@@ -203,17 +205,22 @@ impl Duties {
         touched: &TouchedEndpoint,
     ) -> Result<(), Rule>
         ensures { result_err result ≡ first_broken (touched_rules header.now slack moment self.now counts
-            (brought_by self.now seen.now.built_change) seen.now.sampling touched.now) }
+            (sent_by self.now seen.now.built_change) seen.now.sampling touched.now) }
     {
         let id = EndpointId {
             host: touched.host,
             number: touched.place,
         };
-        let brought = self.brought_by(seen.built_change);
+        let sent = self.sent_by(seen.built_change);
+        let brought = brought_by(&sent);
         let lates = self.judged_lates(header, slack, moment, brought, id, &touched.before);
-        let due = self.is_sample_due(seen.sampling, touched);
+        let limited = Limited {
+            counts,
+            lacks: self.sends_in_excess(header, slack, &sent, touched),
+            due: self.is_sample_due(seen.sampling, touched),
+        };
         let owed = self.owed_by(touched.host, touched.place);
-        admits_both(header, lates, Limited { counts, due }, touched, &owed)
+        admits_both(header, lates, limited, touched, &owed)
     }
 
     // Whether a step is neither late nor too much at the endpoint that it touches.
@@ -228,13 +235,17 @@ impl Duties {
         touched: &TouchedEndpoint,
     ) -> Result<(), Rule>
         ensures { result_err result ≡ first_broken (touched_rules header.now slack moment self.now counts
-            (brought_by self.now seen.now.built_change) seen.now.sampling touched.now) }
+            (sent_by self.now seen.now.built_change) seen.now.sampling touched.now) }
     {
         if header.version.says_sender() {
             return self.admits_strictly(header, slack, moment, counts, seen, touched);
         }
         let due = self.is_sample_due(seen.sampling, touched);
-        let limited = Limited { counts, due };
+        let limited = Limited {
+            counts,
+            lacks: false,
+            due,
+        };
         let closed = self.listener_closed(touched.host, &touched.before);
         let table = self.owed.get(touched.host);
         match table.get(u64::from(touched.place)) {
@@ -312,10 +323,12 @@ fn counts_now(built: Option<Built>) -> bool
     }
 }
 
-// What a step does too much of, or not at all: it sends a mere acknowledgment; it makes no measurement that is due.
+// What a step does too much of, or not at all: it sends a mere acknowledgment; it sends one without a credit; it makes
+// no measurement that is due.
 #[derive(Clone, Copy)]
 struct Limited {
     counts: bool,
+    lacks: bool,
     due: bool,
 }
 
@@ -327,7 +340,7 @@ fn admits_limits(
     owed: &Owed,
 ) -> Result<(), Rule>
     ensures { result_err result ≡ first_broken
-        (limit_rules header.now touched.now limited.counts limited.due owed.now) }
+        (limit_rules header.now touched.now limited.counts limited.lacks limited.due owed.now) }
 {
     if is_resent(
         header.congestion,
@@ -340,7 +353,7 @@ fn admits_limits(
     if is_resent_beyond(header.congestion, &touched.event, &touched.before) {
         return Err(Rule::ResentBeyond);
     }
-    if is_excess(limited.counts, owed.answers) {
+    if is_excess(limited.counts, owed.answers) || limited.lacks {
         return Err(Rule::AckExcess);
     }
     if limited.due {
@@ -359,7 +372,8 @@ fn admits_both(
     owed: &Owed,
 ) -> Result<(), Rule>
     ensures { result_err result
-        ≡ first_broken (late_rules lates ++ limit_rules header.now touched.now limited.counts limited.due owed.now) }
+        ≡ first_broken (late_rules lates
+        ++ limit_rules header.now touched.now limited.counts limited.lacks limited.due owed.now) }
 {
     match admits_lates(lates) {
         Ok(()) => admits_limits(header, touched, limited, owed),
@@ -380,7 +394,7 @@ fn admits_endpoint(
 ) -> Result<(), Rule>
     ensures { result_err result ≡ first_broken
         (late_rules (lates_of slack moment touched.now.before listener_closed owed.now)
-        ++ limit_rules header.now touched.now limited.counts limited.due owed.now) }
+        ++ limit_rules header.now touched.now limited.counts limited.lacks limited.due owed.now) }
 {
     match admits_owed(slack, moment, &touched.before, listener_closed, owed) {
         Ok(()) => admits_limits(header, touched, limited, owed),
@@ -596,7 +610,7 @@ impl Duties {
         seen: &Observation,
         after: &View,
     ) -> Result<(), OutOfMemory>
-        ensures { OnOk result (self.new ≡ duties_after false after.now moment seen.now self.old) }
+        ensures { (slack : ℕ) → OnOk result (self.new ≡ duties_after false slack after.now moment seen.now self.old) }
     {
         let counts = counts_now(self.built_by(seen.built_change));
         if let Some(touched) = &seen.touched {
@@ -608,19 +622,20 @@ impl Duties {
         note_built_change(&mut self.built, moment, seen, after)
     }
 
-    /// Notes a step, if the endpoint that it touched is then seen like this; `strict`: for the stricter duties, too. If
-    /// memory runs out, the duties are of no use any more.
+    /// Notes a step, if the endpoint that it touched is then seen like this; `strict`: for the stricter duties, too, with
+    /// this slack in microseconds. If memory runs out, the duties are of no use any more.
     #[inline(always)]
     pub fn note(
         &mut self,
         strict: bool,
+        slack: u64,
         moment: u64,
         seen: &Observation,
         after: &View,
     ) -> Result<(), OutOfMemory>
-        ensures { OnOk result (self.new ≡ duties_after strict after.now moment seen.now self.old) }
+        ensures { OnOk result (self.new ≡ duties_after strict slack after.now moment seen.now self.old) }
     {
-        self.note_if_strict(strict, moment, seen, after)?;
+        self.note_if_strict(strict, slack, moment, seen, after)?;
         self.note_plain(moment, seen, after)
     }
 }

@@ -2,6 +2,7 @@
 //! `lib.rt` says why each function here is inlined.
 
 ghost use Rattle.std.specs.Prelude.{◌≡◌, ◌*◌, ◌^◌, min, if◌then◌else◌};
+ghost use Rattle.spec_duties.specs.Strict.{answered_after, answered_often, asks_strictly};
 ghost use Rattle.spec_duties.specs.Strict.{builds_answer, clock_error, coarse_expiry_due, coarse_probing_due};
 ghost use Rattle.spec_duties.specs.Strict.{doubled_error, is_fin_alone, is_spared, longest_coarse_run};
 ghost use Rattle.spec_duties.specs.Strict.{next_coarse_probe_due, nothing_strict, opens, rebuilds_oldest};
@@ -9,7 +10,8 @@ ghost use Rattle.spec_duties.specs.Strict.{restarted_after, sends_oldest_or_prob
 ghost use Rattle.spec_duties.specs.Strict.{strict_lates, strict_probe_after, strict_retransmit_after, taken_over};
 ghost use Rattle.spec_duties.specs.Strict.{unbuilt_answer_after, with_brought};
 
-use crate::acknowledge::{acknowledge_due, asks_ack};
+use crate::acknowledge::{acknowledge_due, answered_lately, asks_ack};
+use crate::credits::kept_alive_after;
 use crate::deadlines::{is_late, is_late_at_once};
 use crate::expire::has_expiry_due;
 use crate::owed::lates_of;
@@ -17,7 +19,7 @@ use crate::probe::is_probing_segment;
 use crate::resent::making_length;
 use crate::retransmit::{acknowledges_more, holds, is_probe_timeout, is_timeout};
 use crate::sampling::timed_after;
-use case_forms::SegmentPlan;
+use case_forms::{SegmentPlan, State};
 use spec_duties::{Event, Lates, Owed, Probing, Sampling, StrictOwed, TouchedEndpoint, View};
 use timer_rules::LONGEST_RTO;
 
@@ -33,6 +35,8 @@ pub(crate) fn nothing_strict() -> StrictOwed
         restarted: 0,
         timed: 0,
         widest: 0,
+        answered: [None; 10],
+        kept_alive: None,
     }
 }
 
@@ -52,6 +56,71 @@ fn builds_answer(event: &Event) -> bool
     }
 }
 
+/// The time in which stacks may limit themselves to ten answers, in microseconds (RFC 5961, 7).
+const RATE_PERIOD: u64 = 5_000_000;
+
+// Whether an endpoint sent ten segments with ACK in that time.
+#[inline(always)]
+fn answered_often(moment: u64, answered: &[Option<u64>; 10]) -> bool
+    ensures { result ≡ answered_often moment answered.now }
+{
+    match answered[9] {
+        Some(m) => moment as u128 <= m as u128 + RATE_PERIOD as u128,
+        None => false,
+    }
+}
+
+// When an endpoint sent its last ten segments with ACK, after a step.
+#[inline(always)]
+fn answered_after(event: &Event, moment: u64, answered: [Option<u64>; 10]) -> [Option<u64>; 10]
+    ensures { result ≡ answered_after event.now moment answered }
+{
+    match event {
+        Event::Sends(sending) => {
+            if sending.flags.ack {
+                let [a, b, c, d, e, f, g, h, i, _] = answered;
+                [Some(moment), a, b, c, d, e, f, g, h, i]
+            } else {
+                answered
+            }
+        }
+        Event::Opens
+        | Event::Calls { .. }
+        | Event::Processes { .. }
+        | Event::Drops { .. }
+        | Event::Builds(_)
+        | Event::Expires(_)
+        | Event::Recovers => answered,
+    }
+}
+
+// Whether a step makes an acknowledgment due.
+#[inline(always)]
+fn asks_strictly(
+    event: &Event,
+    state: State,
+    moment: u64,
+    acknowledged: Option<u64>,
+    answered: &[Option<u64>; 10],
+) -> bool
+    ensures { result ≡ asks_strictly event.now state moment acknowledged answered.now }
+{
+    match event {
+        Event::Drops { asks, unlimited } => {
+            *asks
+                && (*unlimited
+                    || !(answered_lately(moment, acknowledged) || answered_often(moment, answered)))
+        }
+        Event::Opens
+        | Event::Calls { .. }
+        | Event::Processes { .. }
+        | Event::Builds(_)
+        | Event::Sends(_)
+        | Event::Expires(_)
+        | Event::Recovers => asks_ack(event, state, moment, acknowledged),
+    }
+}
+
 // Since when an acknowledgment is owed for which no segment was built, after a step.
 #[inline(always)]
 fn unbuilt_answer_after(
@@ -59,13 +128,15 @@ fn unbuilt_answer_after(
     before: &View,
     moment: u64,
     acknowledged: Option<u64>,
-    since: Option<u64>,
+    owed: &StrictOwed,
 ) -> Option<u64>
-    ensures { result ≡ unbuilt_answer_after event.now before.now moment acknowledged since }
+    ensures { result ≡ unbuilt_answer_after event.now before.now moment acknowledged owed.now.answered
+        owed.now.acknowledge }
 {
+    let since = owed.acknowledge;
     if builds_answer(event) {
         None
-    } else if asks_ack(event, before.state, moment, acknowledged) {
+    } else if asks_strictly(event, before.state, moment, acknowledged, &owed.answered) {
         since.or(Some(moment))
     } else {
         since
@@ -289,7 +360,7 @@ fn strict_probe_after(
 }
 
 /// What an endpoint owes by the stricter duties after a step that touched it, if it is then seen like this.
-/// `acknowledged`: when it last sent a segment with ACK, before the step.
+/// `acknowledged`: when it last sent a segment with ACK, before the step; `keeps_alive`: it sends a keep-alive.
 #[inline(always)]
 pub(crate) fn strict_after(
     sampling: Sampling,
@@ -297,19 +368,22 @@ pub(crate) fn strict_after(
     after: &View,
     moment: u64,
     acknowledged: Option<u64>,
+    keeps_alive: bool,
     owed: &StrictOwed,
 ) -> StrictOwed
     ensures { result
-        ≡ strict_after sampling touched.now.event touched.now.before after.now moment acknowledged owed.now }
+        ≡ strict_after sampling touched.now.event touched.now.before after.now moment acknowledged keeps_alive owed.now }
 {
     let (event, before) = (&touched.event, &touched.before);
     StrictOwed {
-        acknowledge: unbuilt_answer_after(event, before, moment, acknowledged, owed.acknowledge),
+        acknowledge: unbuilt_answer_after(event, before, moment, acknowledged, owed),
         retransmit: strict_retransmit_after(event, before, after, moment, owed.retransmit),
         probe: strict_probe_after(event, before, after, moment, owed.probe),
         restarted: restarted_after(event, before, after, moment, owed.restarted),
         timed: timed_after(sampling, event, before, after, owed.timed),
         widest: owed.widest.max(after.snd_wnd),
+        answered: answered_after(event, moment, owed.answered),
+        kept_alive: kept_alive_after(keeps_alive, moment, owed.kept_alive),
     }
 }
 

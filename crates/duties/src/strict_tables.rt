@@ -6,9 +6,11 @@ ghost use Rattle.std.specs.Map.{lookup};
 ghost use Rattle.std.specs.Option.{option_map_or};
 ghost use Rattle.indexmap.specs.IndexMap.{insert_entry};
 ghost use Rattle.spec_network.specs.Tables.{pick, waiting, with_host};
+ghost use Rattle.spec_duties.specs.Credits.{credit_of, earned, has_credit, spent};
 ghost use Rattle.spec_duties.specs.Strict.{nothing_strict};
 ghost use Rattle.duties.specs.StrictTables.{none_kept};
 
+use crate::credits::Credits;
 use crate::per_host::PerHost;
 use crate::strict::nothing_strict;
 use case_forms::{Host, OutOfMemory};
@@ -23,6 +25,7 @@ use tables::Table;
 struct Tables {
     owed: PerHost<Table<StrictOwed>>,
     unsent: Table<Option<Unsent>>,
+    credits: PerHost<Credits>,
 }
 
 impl Model for Tables {
@@ -31,7 +34,7 @@ impl Model for Tables {
 
     ghost Value = { StrictKept };
 
-    ghost view = { λ a. record { owed = entries_of a.owed; unsent = a.unsent.entries } };
+    ghost view = { λ a. record { owed = entries_of a.owed; unsent = a.unsent.entries; credits = a.credits } };
 }
 
 impl Tables {
@@ -41,6 +44,7 @@ impl Tables {
         Tables {
             owed: PerHost::new(Table::new(alloc), Table::new(alloc)),
             unsent: Table::new(alloc),
+            credits: PerHost::new(Credits::new(alloc), Credits::new(alloc)),
         }
     }
 
@@ -57,6 +61,22 @@ impl Tables {
             ≡ record self.old { unsent = insert_entry nat_eq self.old.unsent number unsent }) }
     {
         self.unsent.insert(u64::from(number), unsent)
+    }
+
+    fn earn(&mut self, host: Host, place: u32, moment: u64) -> Result<(), OutOfMemory>
+        ensures { OnOk result (self.new ≡ record self.old {
+          credits = with_host self.old.credits host (earned (credit_of place moment) (pick self.old.credits host));
+        }) }
+    {
+        self.credits.get_mut(host).earn(place, moment)
+    }
+
+    fn spend(&mut self, host: Host, place: u32, moment: u64) -> Result<(), OutOfMemory>
+        ensures { OnOk result (self.new ≡ record self.old {
+          credits = with_host self.old.credits host (spent place moment (pick self.old.credits host));
+        }) }
+    {
+        self.credits.get_mut(host).spend(place, moment)
     }
 }
 
@@ -115,6 +135,16 @@ impl StrictTables {
         }
     }
 
+    /// Whether the endpoint at a place has a credit that it earned at this moment or later.
+    pub(crate) fn has_credit(&self, host: Host, place: u32, moment: u64) -> bool
+        ensures { result ≡ has_credit place moment (pick self.now.credits host) }
+    {
+        match &self.tables {
+            Some(tables) => tables.credits.get(host).has(place, moment),
+            None => false,
+        }
+    }
+
     /// The segments that were built, each with its number; None once it was sent.
     pub(crate) fn unsent(&self) -> &[(u64, Option<Unsent>)]
         ensures { result.now ≡ self.now.unsent }
@@ -163,6 +193,31 @@ impl StrictTables {
     {
         let mut tables = self.take()?;
         tables.insert_unsent(number, unsent)?;
+        self.tables = Some(tables);
+        Ok(())
+    }
+
+    /// The endpoint at a place earns a credit. If memory runs out, nothing of it is of use any more.
+    pub(crate) fn earn(&mut self, host: Host, place: u32, moment: u64) -> Result<(), OutOfMemory>
+        ensures { OnOk result (self.new ≡ record self.old {
+          credits = with_host self.old.credits host (earned (credit_of place moment) (pick self.old.credits host));
+        }) }
+    {
+        let mut tables = self.take()?;
+        tables.earn(host, place, moment)?;
+        self.tables = Some(tables);
+        Ok(())
+    }
+
+    /// The oldest credit that it earned at this moment or later is taken. If memory runs out, nothing of it is of use
+    /// any more.
+    pub(crate) fn spend(&mut self, host: Host, place: u32, moment: u64) -> Result<(), OutOfMemory>
+        ensures { OnOk result (self.new ≡ record self.old {
+          credits = with_host self.old.credits host (spent place moment (pick self.old.credits host));
+        }) }
+    {
+        let mut tables = self.take()?;
+        tables.spend(host, place, moment)?;
         self.tables = Some(tables);
         Ok(())
     }

@@ -39,7 +39,7 @@ pub record Goes (h : Header) (slack : ℕ) (k next : Known) (x : Stamped tcp_sha
   pub dutiful : first_broken (duty_rules h slack x.moment k.duties (observe h x.moment k.model x.step)) ≡ None
   pub model : next.model ≡ after (tcp h) x.moment k.model x.step
   pub duties : next.duties
-      ≡ duties_after (says_sender h.version) (view_in (after (tcp h) x.moment k.model x.step) (observe h x.moment k.model x.step).touched) x.moment
+      ≡ duties_after (says_sender h.version) slack (view_in (after (tcp h) x.moment k.model x.step) (observe h x.moment k.model x.step).touched) x.moment
       (observe h x.moment k.model x.step) k.duties
 
 -- a step that does something in the model; another changes nothing
@@ -130,7 +130,7 @@ module _ (h : Header) (lines : List Line) where
     model = ap (λ (m : Known). m.model) is;
     duties =
         ap (λ (m : Known). m.duties) is
-        ∙ ap (λ o. on o k.duties (λ slack. duties_after (says_sender h.version) (view_in (after (tcp h) x.moment k.model x.step)
+        ∙ ap (λ o. on o k.duties (λ slack. duties_after (says_sender h.version) slack (view_in (after (tcp h) x.moment k.model x.step)
         (observe h x.moment k.model x.step).touched) x.moment (observe h x.moment k.model x.step) k.duties)) given;
   }
 

@@ -53,7 +53,7 @@ use Rattle.spec_duties.specs.Resent.{is_resent, is_resent_beyond}
 use Rattle.spec_duties.specs.Observations.{observe_accept, at_drop, at_place, at_ports, at_sender, at_target, observe_call, observe_close, observe_effect}
 use Rattle.spec_duties.specs.Observations.{is_done, observe_other, processing_of, sending_of, observe, unseen, view_in}
 use Rattle.spec_duties.specs.Views.{unborn, view_of}
-use Rattle.spec_duties.specs.Watching.{Duties, brought_by, built_by, counts_now, duty_rules, judged_lates, listener_closed, owed_by, owed_table_after}
+use Rattle.spec_duties.specs.Watching.{Duties, brought_by, built_by, counts_now, duty_rules, judged_lates, listener_closed, owed_by, owed_table_after, sends_in_excess, sent_by}
 use Rattle.spec_duties.specs.Watching.{touched_rules}
 use Rattle.spec_duties.specs.declared.events.Event.{Event}
 use Rattle.spec_duties.specs.declared.events.Event.TheVariants as events
@@ -364,17 +364,19 @@ module _ (h : Header) (slack : ℕ) (k next : Known) (x : Stamped tcp_shape) (me
       let rules = (none_all (duty_rules h slack x.moment k.duties shown) goes.dutiful).1.1.1.1 in
       let here =
       subst (λ (o : Option TouchedEndpoint). AllByRecursion (λ r. r.1 ≡ false) (on o [] (touched_rules h slack x.moment k.duties counts
-      (brought_by k.duties shown.built_change) shown.sampling))) shows rules in
+      (sent_by k.duties shown.built_change) shown.sampling))) shows rules in
       record {
         counts = counts;
         listener = listener_closed k.duties me.host (seen k.model me);
         counted = refl;
         listens = refl;
-        brought = brought_by k.duties shown.built_change;
+        brought = brought_by (sent_by k.duties shown.built_change);
         lates = (here.0, (here.1.0, (here.1.1.0, (here.1.1.1.0, (here.1.1.1.1.0, (here.1.1.1.1.1.0, tt))))));
         resent = here.1.1.1.1.1.1.0;
         beyond = here.1.1.1.1.1.1.1.0;
-        excess = here.1.1.1.1.1.1.1.1.0;
+        excess =
+            first (is_excess counts (owed_by k.duties me.host me.number).answers)
+            (sends_in_excess h slack k.duties (sent_by k.duties shown.built_change) (touched k.model me event)) here.1.1.1.1.1.1.1.1.0;
         after =
             ap (λ (d : Duties). owed_by d me.host me.number) goes.duties
             ∙ ap (λ (o : Option TouchedEndpoint). owed_in (on o k.duties.owed (owed_table_after
@@ -386,6 +388,10 @@ module _ (h : Header) (slack : ℕ) (k next : Known) (x : Stamped tcp_shape) (me
     where
       counts : Bool
       counts = counts_now (built_by k.duties shown.built_change)
+
+      first : (a b : Bool) → (a || b) ≡ false → a ≡ false
+      first true b none = none
+      first false b none = refl
 
   -- another step leaves what it owes
   pub touches_or_not : Touches h k x me

@@ -37,10 +37,10 @@ start h = record { header = h; world = first_known h; steps = 0 }
 abbrev pub judged_rules : Header → (moment : ℕ) → Duties → Observation → List (Rule × Bool)
 judged_rules h moment d s = on h.slack [] (λ slack. duty_rules h slack moment d s)
 
--- what is kept after a step: nothing new at `any`
+-- what is kept after a step: nothing new at `any`; which credit is taken depends on the slack
 abbrev pub noted_by : Header → (moment : ℕ) → (after : World tcp_shape) → Observation → Duties → Duties
 noted_by h moment w s d =
-    on h.slack d (λ slack. duties_after (says_sender h.version) (view_in w s.touched) moment s d)
+    on h.slack d (λ slack. duties_after (says_sender h.version) slack (view_in w s.touched) moment s d)
 
 -- the rules of duties at a step
 abbrev pub watch_rules : Header → (moment : ℕ) → Known → Step tcp_shape → List (Rule × Bool)

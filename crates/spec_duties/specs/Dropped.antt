@@ -128,6 +128,19 @@ asks old_numbers m taking e =
     else is_unacceptable taking || is_ack_range taking && m.flags.ack || not (is_some taking)
     || old_numbers && is_number taking)
 
+-- processing a segment earns a credit: it holds positions, or acknowledges less than is acknowledged
+abbrev pub earns_by_taking : Version → Emission → Taker → Bool
+earns_by_taking v m Nobody = false
+earns_by_taking v m (AtListener l) = false
+earns_by_taking v m (AtEndpoint i e) = says_sender v && (nat_lt 0 (segment_length m) || acknowledges_less v e m)
+
+-- dropping it does: it holds positions, or asks for an acknowledgment
+abbrev pub earns_by_dropping : Version → Emission → (taking : Option Rule) → Taker → Bool
+earns_by_dropping v m taking Nobody = false
+earns_by_dropping v m taking (AtListener l) = false
+earns_by_dropping v m taking (AtEndpoint i e) =
+    says_sender v && (nat_lt 0 (segment_length m) || asks (reads_old_numbers v) m taking e)
+
 -- the states in which what is next in order is kept (RFC 9293, 3.10.7.4, seventh)
 abbrev pub keeps_order : State → Bool
 keeps_order states.SynReceived = true

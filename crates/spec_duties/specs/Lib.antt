@@ -9,6 +9,7 @@ pub mod Start
 pub mod Reset
 pub mod Resent
 pub mod Excess
+pub mod Credits
 pub mod Owed
 pub mod Sampling
 pub mod Strict

@@ -30,7 +30,7 @@ use Rattle.spec_duties.specs.Views.{View, view_of, unborn}
 use Rattle.spec_duties.specs.Events as events
 use Rattle.spec_duties.specs.Events.{Event}
 use Rattle.spec_duties.specs.Dropped.{taking_breaks, answering_breaks, droppable_by, dropping_of, has_content}
-use Rattle.spec_duties.specs.Dropped.{asks}
+use Rattle.spec_duties.specs.Dropped.{asks, earns_by_dropping, earns_by_taking}
 use Rattle.spec_duties.specs.Dropped.{discards_at, is_old, reads_old_numbers}
 use Rattle.spec_duties.specs.Sampling.{sampling_at}
 use Rattle.spec_duties.specs.declared.observations.Sampling.TheVariants as sampling
@@ -53,6 +53,7 @@ unseen = record {
   dropping = None;
   discards = false;
   sampling = sampling.Nothing;
+  earns = false;
 }
 
 abbrev pub touching : Option TouchedEndpoint → Observation
@@ -101,6 +102,7 @@ observe_taking h host b line how m t =
       inbox_change = inbox_change.Leaves line;
       discards = discards_at h.version how m t;
       sampling = sampling_at h.version how m t;
+      earns = earns_by_taking h.version m t;
     }
 
 abbrev pub observe_dropping : Version → Host → HostTcp → (line : ℕ) → (taking answering : Option Rule) → Emission
@@ -110,6 +112,7 @@ observe_dropping v host b line taking answering m t =
       touched = at_drop v host b m taking t;
       inbox_change = inbox_change.Leaves line;
       dropping = Some (dropping_of host taking answering (droppable_by v b m t) (is_old v m t));
+      earns = earns_by_dropping v m taking t;
     }
 
 -- of a step of a host; `fresh` is the number of the next segment to be built

@@ -1,15 +1,17 @@
 -- The duties that version 6 changes. An acknowledgment that answers is built after what it answers; what is built is
 -- sent; a probe probes. And clocks may be coarse: a timer may run longer by what its clock can be wrong.
 use Rattle.std.specs.Prelude.{ℕ, ◌+◌, ◌*◌, ◌^◌, ◌==◌, nat_le, nat_lt, min, max, Bool, false, not, ◌&&◌, ◌||◌}
-use Rattle.std.specs.Prelude.{if◌then◌else◌, Option, None, Some, is_some}
+use Rattle.std.specs.Prelude.{if◌then◌else◌, List, [], ◌∷◌, Option, None, Some, is_some, slice_index_or, take}
 use Rattle.std.specs.Option.{option_map, option_map_or, option_or}
 use Rattle.case_forms.specs.States.{is_closed, is_time_wait}
+use Rattle.case_forms.specs.declared.calls.State.{State}
 use Rattle.case_forms.specs.declared.steps.SegmentPlan.{SegmentPlan}
 use Rattle.timer_rules.specs.Timeouts.{longest_rto}
 use Rattle.spec_tcp.specs.Makes.Payload.{making_length}
-use Rattle.spec_duties.specs.Acknowledge.{acknowledge_due, asks_ack}
+use Rattle.spec_duties.specs.Acknowledge.{acknowledge_due, answered_lately, asks_ack}
+use Rattle.spec_duties.specs.Credits.{kept_alive_after}
 use Rattle.spec_duties.specs.Deadlines.{is_late}
-use Rattle.spec_duties.specs.Events.{Event, Builds, Sends, holds, acknowledges_more}
+use Rattle.spec_duties.specs.Events.{Event, Builds, Drops, Sends, holds, acknowledges_more}
 use Rattle.spec_duties.specs.Expire.{has_expiry_due}
 use Rattle.spec_duties.specs.Owed.{Lates, Owed, lates_of}
 use Rattle.spec_duties.specs.Probe.{Probing, is_probing_segment}
@@ -21,18 +23,48 @@ pub use Rattle.spec_duties.specs.declared.strict.Unsent.{Unsent}
 
 -- before any step touches an endpoint
 abbrev pub nothing_strict : StrictOwed
-nothing_strict = record { acknowledge = None; retransmit = None; probe = None; restarted = 0; timed = 0; widest = 0 }
+nothing_strict = record {
+  acknowledge = None;
+  retransmit = None;
+  probe = None;
+  restarted = 0;
+  timed = 0;
+  widest = 0;
+  answered = None ∷ None ∷ None ∷ None ∷ None ∷ None ∷ None ∷ None ∷ None ∷ None ∷ [];
+  kept_alive = None;
+}
 
 -- ---- acknowledge: a segment with ACK or a reset that is built takes over what is owed (RFC 9293, 3.8.6.3)
 abbrev pub builds_answer : Event → Bool
 builds_answer (Builds m) = m.flags.ack || m.flags.rst
 builds_answer event = false
 
+-- the time in which stacks may limit themselves to ten answers, in microseconds (RFC 5961, 7)
+abbrev pub rate_period : ℕ
+rate_period = 5000000
+
+-- the endpoint sent ten segments with ACK in that time; `answered`: when it sent the last ten
+abbrev pub answered_often : (moment : ℕ) → (answered : List (Option ℕ)) → Bool
+answered_often moment answered =
+    option_map_or (λ m. nat_le moment (m + rate_period)) (slice_index_or answered 9 None) false
+
+abbrev pub answered_after : Event → (moment : ℕ) → List (Option ℕ) → List (Option ℕ)
+answered_after (Sends s) moment answered = if s.flags.ack then Some moment ∷ take 9 answered else answered
+answered_after event moment answered = answered
+
+-- the duty arises, if the rate of answers isn't reached
+abbrev pub asks_strictly : Event → State → (moment : ℕ) → (acknowledged : Option ℕ) → (answered : List (Option ℕ))
+    → Bool
+asks_strictly (Drops asks unlimited) state moment acknowledged answered =
+    asks && (unlimited || not (answered_lately moment acknowledged || answered_often moment answered))
+asks_strictly event state moment acknowledged answered = asks_ack event state moment acknowledged
+
 -- since when it is owed by the endpoint; if it is owed already, the earlier moment stays
-abbrev pub unbuilt_answer_after : Event → (before : View) → (moment : ℕ) → (acknowledged since : Option ℕ) → Option ℕ
-unbuilt_answer_after event before moment acknowledged since =
+abbrev pub unbuilt_answer_after : Event → (before : View) → (moment : ℕ) → (acknowledged : Option ℕ)
+    → (answered : List (Option ℕ)) → (since : Option ℕ) → Option ℕ
+unbuilt_answer_after event before moment acknowledged answered since =
     if builds_answer event then None
-    else if asks_ack event before.state moment acknowledged then option_or since (Some moment)
+    else if asks_strictly event before.state moment acknowledged answered then option_or since (Some moment)
     else since
 
 -- since when it is owed by a segment that is built now
@@ -121,16 +153,19 @@ strict_probe_after event before after moment since =
 
 -- ---- all of them
 
--- what is owed after a step at an endpoint; `acknowledged`: when it last sent a segment with ACK
+-- what is owed after a step at an endpoint; `acknowledged`: when it last sent a segment with ACK; `keeps_alive`: it
+-- sends a keep-alive
 abbrev pub strict_after : Sampling → Event → (before after : View) → (moment : ℕ) → (acknowledged : Option ℕ)
-    → StrictOwed → StrictOwed
-strict_after s event before after moment acknowledged o = record {
-  acknowledge = unbuilt_answer_after event before moment acknowledged o.acknowledge;
+    → (keeps_alive : Bool) → StrictOwed → StrictOwed
+strict_after s event before after moment acknowledged keeps_alive o = record {
+  acknowledge = unbuilt_answer_after event before moment acknowledged o.answered o.acknowledge;
   retransmit = strict_retransmit_after event before after moment o.retransmit;
   probe = strict_probe_after event before after moment o.probe;
   restarted = restarted_after event before after moment o.restarted;
   timed = timed_after s event before after o.timed;
   widest = max o.widest after.snd_wnd;
+  answered = answered_after event moment o.answered;
+  kept_alive = kept_alive_after keeps_alive moment o.kept_alive;
 }
 
 -- which of it is late; a CLOSED endpoint owes no more than a reset

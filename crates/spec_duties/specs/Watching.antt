@@ -18,6 +18,8 @@ use Rattle.spec_duties.specs.Events.{Event}
 use Rattle.spec_duties.specs.Deadlines.{is_late}
 use Rattle.spec_duties.specs.Resent.{is_resent, is_resent_beyond}
 use Rattle.spec_duties.specs.Excess.{one_more, is_excess, is_mere_ack}
+use Rattle.spec_duties.specs.Credits.{credit_of, earliest_credit, earned, has_credit, is_keep_alive, needs_credit}
+use Rattle.spec_duties.specs.Credits.{spent}
 use Rattle.spec_duties.specs.Acknowledge.{acknowledge_due}
 use Rattle.spec_duties.specs.Owed.{Lates, Owed, nothing, lates_of, late_rules, owed_after}
 use Rattle.spec_duties.specs.Sampling.{Sampling, is_sample_due}
@@ -34,7 +36,8 @@ pub use Rattle.spec_duties.specs.declared.tables.Built.{Built}
 
 -- what each endpoint owes, by its place; each listener, by its place; since when each segment in an inbox waits, by its
 -- line; and the segments that were built, by their numbers. What left an inbox or was sent leaves None in its place.
--- For the stricter duties of version 6, the same of endpoints and of segments that were built
+-- For the stricter duties of version 6, the same of endpoints and of segments that were built, and the credits of each
+-- host's endpoints
 pub record Duties : Type 0 where
   pub owed : Both (List (ℕ × Owed))
   pub listening : Both (List (ℕ × Listening))
@@ -42,6 +45,7 @@ pub record Duties : Type 0 where
   pub built : List (ℕ × Option Built)
   pub strict : Both (List (ℕ × StrictOwed))
   pub unsent : List (ℕ × Option Unsent)
+  pub credits : Both (List ℕ)
 
 abbrev pub start : Duties
 start = record {
@@ -51,6 +55,7 @@ start = record {
   built = [];
   strict = record { zero = []; one = [] };
   unsent = [];
+  credits = record { zero = []; one = [] };
 }
 
 -- what an endpoint owes
@@ -103,17 +108,34 @@ sent_late slack moment built = is_late slack moment (option_map (λ b. b.since) 
 abbrev pub counts_now : Option Built → Bool
 counts_now built = option_map_or (λ b. b.counts) built false
 
--- the limits on repetition, and the measurement that is due
-abbrev pub limit_rules : Header → TouchedEndpoint → (counts due : Bool) → Owed → List (Rule × Bool)
-limit_rules h t counts due o =
+-- the segment that was built in version 6 and is sent
+abbrev pub sent_by : Duties → BuiltChange → Option Unsent
+sent_by d (built_change.Sends number) = waiting number d.unsent
+sent_by d it = None
+
+-- it is a keep-alive
+abbrev pub sends_keep_alive : Option Unsent → Bool
+sends_keep_alive sent = option_map_or (λ u. u.keeps_alive) sent false
+
+-- since when the acknowledgment is owed that it brings
+abbrev pub brought_by : Option Unsent → Option ℕ
+brought_by sent = option_map_or (λ u. u.acknowledge) sent None
+
+-- in version 6: it needs a credit, and its endpoint has none that is young enough
+abbrev pub lacks_credit : (slack : ℕ) → Duties → Host → (place : ℕ) → Unsent → Bool
+lacks_credit slack d host place u =
+    u.costs && not (has_credit place (earliest_credit slack u.since) (pick d.credits host))
+
+abbrev pub sends_in_excess : Header → (slack : ℕ) → Duties → Option Unsent → TouchedEndpoint → Bool
+sends_in_excess h slack d sent t =
+    says_sender h.version && option_map_or (lacks_credit slack d t.host t.place) sent false
+
+-- the limits on repetition, and the measurement that is due; `lacks`: an acknowledgment is sent without a credit
+abbrev pub limit_rules : Header → TouchedEndpoint → (counts lacks due : Bool) → Owed → List (Rule × Bool)
+limit_rules h t counts lacks due o =
     (rules.Resent, is_resent h.congestion t.event t.before o.again)
     ∷ (rules.ResentBeyond, is_resent_beyond h.congestion t.event t.before)
-    ∷ (rules.AckExcess, is_excess counts o.answers) ∷ (rules.SampleDue, due) ∷ []
-
--- since when the acknowledgment is owed that the segment brings which is sent
-abbrev pub brought_by : Duties → BuiltChange → Option ℕ
-brought_by d (built_change.Sends number) = option_map_or (λ u. u.acknowledge) (waiting number d.unsent) None
-brought_by d it = None
+    ∷ (rules.AckExcess, is_excess counts o.answers || lacks) ∷ (rules.SampleDue, due) ∷ []
 
 -- which duties of an endpoint are late: in version 6, by the stricter ones
 abbrev pub judged_lates : Header → (slack moment : ℕ) → Duties → (brought : Option ℕ) → Host → (place : ℕ) → View
@@ -125,11 +147,12 @@ judged_lates h slack moment d brought host place v =
     else lates_of slack moment v (listener_closed d host v) (owed_by d host place)
 
 -- the rules of an endpoint that a step touches
-abbrev pub touched_rules : Header → (slack moment : ℕ) → Duties → (counts : Bool) → (brought : Option ℕ) → Sampling
+abbrev pub touched_rules : Header → (slack moment : ℕ) → Duties → (counts : Bool) → (sent : Option Unsent) → Sampling
     → TouchedEndpoint → List (Rule × Bool)
-touched_rules h slack moment d counts brought s t =
-    late_rules (judged_lates h slack moment d brought t.host t.place t.before)
-    ++ limit_rules h t counts (is_sample_due s (strict_by d t.host t.place).timed) (owed_by d t.host t.place)
+touched_rules h slack moment d counts sent s t =
+    late_rules (judged_lates h slack moment d (brought_by sent) t.host t.place t.before)
+    ++ limit_rules h t counts (sends_in_excess h slack d sent t)
+    (is_sample_due s (strict_by d t.host t.place).timed) (owed_by d t.host t.place)
 
 -- all rules of duties at a step
 abbrev pub duty_rules : Header → (slack moment : ℕ) → Duties → Observation → List (Rule × Bool)
@@ -138,7 +161,7 @@ duty_rules h slack moment d s =
     ∷ (rules.ProcessLate, leaves_late slack moment d s.inbox_change)
     ∷ (rules.SendLate, sent_late slack moment (built_by d s.built_change))
     ∷ on s.touched []
-    (touched_rules h slack moment d (counts_now (built_by d s.built_change)) (brought_by d s.built_change) s.sampling)
+    (touched_rules h slack moment d (counts_now (built_by d s.built_change)) (sent_by d s.built_change) s.sampling)
 
 -- what is owed after a step at an endpoint, which is then seen like this
 abbrev pub owed_table_after : (after : View) → (moment : ℕ) → (counts : Bool) → Duties → TouchedEndpoint
@@ -208,34 +231,60 @@ built_after after moment touched (built_change.Builds number) built =
 built_after after moment touched (built_change.Sends number) built = settled number built
 
 -- what is owed by the stricter duties after a step at an endpoint
-abbrev pub strict_table_after : (after : View) → (moment : ℕ) → Duties → Sampling → TouchedEndpoint
-    → Both (List (ℕ × StrictOwed))
-strict_table_after after moment d s t =
+abbrev pub strict_table_after : (after : View) → (moment : ℕ) → Duties → (sent : Option Unsent) → Sampling
+    → TouchedEndpoint → Both (List (ℕ × StrictOwed))
+strict_table_after after moment d sent s t =
     with_host d.strict t.host
     (insert_entry nat_eq (pick d.strict t.host) t.place
-    (strict_after s t.event t.before after moment (owed_by d t.host t.place).acknowledged (strict_by d t.host t.place)))
+    (strict_after s t.event t.before after moment (owed_by d t.host t.place).acknowledged (sends_keep_alive sent)
+    (strict_by d t.host t.place)))
 
 -- a segment that is built now takes over the acknowledgment that its endpoint owes
-abbrev pub built_unsent : (moment : ℕ) → Duties → Option TouchedEndpoint → Unsent
-built_unsent moment d touched = record {
+abbrev pub built_unsent : (after : View) → (moment : ℕ) → Duties → Option TouchedEndpoint → Unsent
+built_unsent after moment d touched = record {
   since = moment;
   acknowledge = on touched None (λ t. taken_over t.event (strict_by d t.host t.place).acknowledge);
   spared = option_map_or (λ t. is_spared t.event t.before) touched false;
+  costs =
+      option_map_or (λ t. needs_credit t.event t.before after moment (strict_by d t.host t.place).kept_alive)
+      touched false;
+  keeps_alive = option_map_or (λ t. is_keep_alive t.event t.before after) touched false;
 }
 
-abbrev pub unsent_after : (moment : ℕ) → Duties → Option TouchedEndpoint → BuiltChange → List (ℕ × Option Unsent)
-unsent_after moment d touched built_change.Nothing = d.unsent
-unsent_after moment d touched (built_change.Builds number) =
-    insert_entry nat_eq d.unsent number (Some (built_unsent moment d touched))
-unsent_after moment d touched (built_change.Sends number) = settled number d.unsent
+abbrev pub unsent_after : (after : View) → (moment : ℕ) → Duties → Option TouchedEndpoint → BuiltChange
+    → List (ℕ × Option Unsent)
+unsent_after after moment d touched built_change.Nothing = d.unsent
+unsent_after after moment d touched (built_change.Builds number) =
+    insert_entry nat_eq d.unsent number (Some (built_unsent after moment d touched))
+unsent_after after moment d touched (built_change.Sends number) = settled number d.unsent
+
+-- the credits of a host after a step at the endpoint at a place
+abbrev pub credits_spent : (slack place : ℕ) → Option Unsent → List ℕ → List ℕ
+credits_spent slack place None credits = credits
+credits_spent slack place (Some u) credits =
+    if u.costs then spent place (earliest_credit slack u.since) credits else credits
+
+abbrev pub credits_earned : (earns : Bool) → (moment place : ℕ) → List ℕ → List ℕ
+credits_earned earns moment place credits = if earns then earned (credit_of place moment) credits else credits
+
+abbrev pub credits_after : (slack moment : ℕ) → Duties → (sent : Option Unsent) → (earns : Bool) → TouchedEndpoint
+    → Both (List ℕ)
+credits_after slack moment d sent earns t =
+    with_host d.credits t.host
+    (credits_earned earns moment t.place (credits_spent slack t.place sent (pick d.credits t.host)))
 
 -- what is kept after a step, if its endpoint is then seen like this; `strict`: for the stricter duties, too
-abbrev pub duties_after : (strict : Bool) → (after : View) → (moment : ℕ) → Observation → Duties → Duties
-duties_after strict after moment s d = record {
+abbrev pub duties_after : (strict : Bool) → (slack : ℕ) → (after : View) → (moment : ℕ) → Observation → Duties → Duties
+duties_after strict slack after moment s d = record {
   owed = on s.touched d.owed (owed_table_after after moment (counts_now (built_by d s.built_change)) d);
   listening = listening_after after moment s d.listening;
   inbox = inbox_after moment s.inbox_change d.inbox;
   built = built_after after moment s.touched s.built_change d.built;
-  strict = if strict then on s.touched d.strict (strict_table_after after moment d s.sampling) else d.strict;
-  unsent = if strict then unsent_after moment d s.touched s.built_change else d.unsent;
+  strict =
+      if strict then on s.touched d.strict (strict_table_after after moment d (sent_by d s.built_change) s.sampling)
+      else d.strict;
+  unsent = if strict then unsent_after after moment d s.touched s.built_change else d.unsent;
+  credits =
+      if strict then on s.touched d.credits (credits_after slack moment d (sent_by d s.built_change) s.earns)
+      else d.credits;
 }

@@ -91,4 +91,6 @@ pub struct Observation {
     /// Whether the step discards what is next in order.
     pub discards: bool,
     pub sampling: Sampling,
+    /// Whether the endpoint earns a credit by it, with which it may send an acknowledgment.
+    pub earns: bool,
 }

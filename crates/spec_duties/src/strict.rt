@@ -17,6 +17,10 @@ pub struct StrictOwed {
     pub timed: u64,
     /// The greatest window that the peer offered, in bytes.
     pub widest: u32,
+    /// When it sent its last ten segments with ACK, the last one first.
+    pub answered: [Option<u64>; 10],
+    /// When it last sent a keep-alive: an empty segment just below the oldest unacknowledged position.
+    pub kept_alive: Option<u64>,
 }
 
 /// A segment that was built and not sent yet.
@@ -28,4 +32,8 @@ pub struct Unsent {
     pub acknowledge: Option<u64>,
     /// Whether it need not be sent.
     pub spared: bool,
+    /// Whether it does nothing but acknowledge, and needs a credit when it is sent.
+    pub costs: bool,
+    /// Whether it is a keep-alive.
+    pub keeps_alive: bool,
 }

@@ -40,7 +40,7 @@ use Rattle.watched.proofs.ForgetLemmas.{observe-forget, view_in-forget}
 -- what may be discarded isn't noted
 pub noted-forget : (h : Header) (moment : ℕ) (w : World tcp_shape) (s : Observation) (d : Duties)
     → noted_by h moment (forgetting.forget w) s d ≡ noted_by h moment w s d
-noted-forget h moment w s d = ap (λ v. on h.slack d (λ slack. duties_after (says_sender h.version) v moment s d)) (view_in-forget w s.touched)
+noted-forget h moment w s d = ap (λ v. on h.slack d (λ slack. duties_after (says_sender h.version) slack v moment s d)) (view_in-forget w s.touched)
 
 -- what the code notes is what is kept
 kept_is : (h : Header) (w : World tcp_shape) (d : Duties) (steps moment : ℕ) (step : Step tcp_shape)
@@ -128,7 +128,7 @@ unseen_admits (Ok x) p d moment step sees e =
 unseen_admits (Err fault) p d moment step sees e = tt
 
 nothing_noted : (o : Option ℕ) (strict : Bool) (moment : ℕ) (w : World tcp_shape) (d : Duties)
-    → on o d (λ slack. duties_after strict (view_in w unseen.touched) moment unseen d) ≡ d
+    → on o d (λ slack. duties_after strict slack (view_in w unseen.touched) moment unseen d) ≡ d
 nothing_noted None strict moment w d = refl
 nothing_noted (Some slack) true moment w d = refl
 nothing_noted (Some slack) false moment w d = refl
@@ -235,7 +235,7 @@ plain_is (Err e) p u d moment asked any is = tt
 plain_is (Ok x) p u d moment None any is = ap (λ (u : Progress). case_of u d) is
 plain_is (Ok x) p u d moment (Some step) any is =
     ap (λ (u : Progress). case_of u d) is
-    ∙ ap wrap (sym (ap (λ o. on o d (λ slack. duties_after (says_sender p.header.version) (view_in now (observe p.header moment p.world step).touched) moment
+    ∙ ap wrap (sym (ap (λ o. on o d (λ slack. duties_after (says_sender p.header.version) slack (view_in now (observe p.header moment p.world step).touched) moment
     (observe p.header moment p.world step) d)) any))
   where
     now : World tcp_shape

@@ -46,7 +46,7 @@ use Rattle.spec_duties.specs.Watching.{Duties, judged_lates}
 use Rattle.spec_duties.specs.declared.events.Event.{Event}
 use Rattle.spec_duties.specs.declared.owed.Lates.{Lates}
 use Rattle.spec_duties.specs.declared.views.View.{View}
-use Rattle.spec_duties.specs.Dropped.{bare, droppable_by, discards_at, is_old, taking_breaks, answering_breaks}
+use Rattle.spec_duties.specs.Dropped.{bare, droppable_by, discards_at, earns_by_dropping, earns_by_taking, is_old, taking_breaks, answering_breaks}
 use Rattle.spec_duties.specs.Sampling.{may_measure, sampling_at}
 use Rattle.spec_duties.specs.Observations.{observe, observe_host_step, at_place, at_ports, at_next, at_sender, at_target, at_drop, unseen}
 use Rattle.spec_duties.specs.Observations.{processing_of, sending_of, accepting, observe_accept, observe_close, observe_other, observe_opened, on_target}
@@ -117,6 +117,17 @@ sampling-forget h how m (AtListener l) = refl
 sampling-forget h how m (AtEndpoint i e) =
     rw (read-forget h e m, measure-forget h.version e (as_read h.version e m)) refl
 
+earning-forget : (h : Header) (m : Emission) (t : Taker) → earns_by_taking h.version m (forget_taker t) ≡ earns_by_taking h.version m t
+earning-forget h m Nobody = refl
+earning-forget h m (AtListener l) = refl
+earning-forget h m (AtEndpoint i e) = rw (read-forget h e m) refl
+
+earning_drop-forget : (v : Version) (m : Emission) (taking : Option Rule) (t : Taker)
+    → earns_by_dropping v m taking (forget_taker t) ≡ earns_by_dropping v m taking t
+earning_drop-forget v m taking Nobody = refl
+earning_drop-forget v m taking (AtListener l) = refl
+earning_drop-forget v m taking (AtEndpoint i e) = rw (rcv_nxt-forget e) refl
+
 sender-seen : (host : Host) (b : HostTcp) (m : Emission) → at_sender host (forget_body b) m ≡ at_sender host b m
 sender-seen host b m = rw (place-seen host b (sending_of m) m.sender.number) refl
 
@@ -156,8 +167,8 @@ host_step-seen h moment w fresh host s (network.Takes line how) = by (waiting li
           taker-forget s.body m,
           target-seen host s.body m (taker s.body m),
           discards-forget h how m (taker s.body m),
-          sampling-forget h how m
-              (taker s.body m),
+          sampling-forget h how m (taker s.body m),
+          earning-forget h m (taker s.body m),
         ) refl
 host_step-seen h moment w fresh host s (network.Drops line) =
     rw (taking-forget h moment w host line, answering-forget h w host line) (by (waiting line s.inbox))
@@ -173,6 +184,7 @@ host_step-seen h moment w fresh host s (network.Drops line) =
           droppable-forget h s.body m (taker s.body m),
           old-forget h.version m (taker s.body m),
           drop-seen h.version host s.body m (taking_breaks h moment w host line) (taker s.body m),
+          earning_drop-forget h.version m (taking_breaks h moment w host line) (taker s.body m),
         ) refl
 host_step-seen h moment w fresh host s (network.Answers line) = refl
 

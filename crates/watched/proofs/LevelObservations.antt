@@ -47,7 +47,7 @@ use Rattle.spec_tcp_laws.proofs.JudgedActs.{MayJudgeAll, nothing_same, taker_by,
 use Rattle.spec_tcp_laws.proofs.JudgedBodies.{place_by}
 use Rattle.spec_tcp_laws.proofs.JudgedRules.{MayJudge}
 use Rattle.spec_tcp_laws.proofs.JudgedWorlds.{aim_same, may_judge}
-use Rattle.spec_duties.specs.Dropped.{answering_breaks, bare, discards_at, droppable_by, is_old, taking_breaks}
+use Rattle.spec_duties.specs.Dropped.{answering_breaks, bare, discards_at, droppable_by, earns_by_dropping, earns_by_taking, is_old, taking_breaks}
 use Rattle.spec_duties.specs.Sampling.{sampling_at}
 use Rattle.spec_duties.specs.Observations.{observe_accept, accepting, at_drop, at_next, at_place, at_ports, at_sender, at_target, observe_call, observe_close}
 use Rattle.spec_duties.specs.Observations.{observe_host_step, observe_dropping, observe_effect, is_done, on_target, observe_opened, observe_other}
@@ -203,6 +203,17 @@ sampling_same p h how m Nobody = refl
 sampling_same p h how m (AtListener l) = refl
 sampling_same p h how m (AtEndpoint i e) = refl
 
+earning_same : (p : Profile) (h : Header) (m : Emission) (t : Taker) → earns_by_taking h.version m (taker_by p t) ≡ earns_by_taking h.version m t
+earning_same p h m Nobody = refl
+earning_same p h m (AtListener l) = refl
+earning_same p h m (AtEndpoint i e) = refl
+
+earning_drop_same : (p : Profile) (v : Version) (m : Emission) (taking : Option Rule) (t : Taker)
+    → earns_by_dropping v m taking (taker_by p t) ≡ earns_by_dropping v m taking t
+earning_drop_same p v m taking Nobody = refl
+earning_drop_same p v m taking (AtListener l) = refl
+earning_drop_same p v m taking (AtEndpoint i e) = refl
+
 -- ---- acts of a host
 
 -- from what is touched to what is shown
@@ -248,7 +259,12 @@ host_step_seen p j h moment w fresh host s (network.Takes line how) may = by (wa
         (on o unseen (λ m. observe_taking (header_by j h) host (body_by p s.body) line how m (taker (body_by p s.body) m)))
     by None = shows_same unseen refl
     by (Some m) =
-        rw (taker_is p s.body m, discards_same p h how m (taker s.body m), sampling_same p h how m (taker s.body m))
+        rw (
+          taker_is p s.body m,
+          discards_same p h how m (taker s.body m),
+          sampling_same p h how m (taker s.body m),
+          earning_same p h m (taker s.body m),
+        )
         (shown (see s.body m (taker s.body m)) _ (target_seen p host s.body m (taker s.body m) may))
 host_step_seen p j h moment w fresh host s (network.Drops line) may =
     rw (taking_breaks_same p j h moment w host line, answering_breaks_same p j h w host line) (by (waiting line s.inbox))
@@ -264,7 +280,12 @@ host_step_seen p j h moment w fresh host s (network.Drops line) may =
         (on o unseen (λ m. observe_dropping h.version host (body_by p s.body) line taking answering m (taker (body_by p s.body) m)))
     by None = shows_same unseen refl
     by (Some m) =
-        rw (taker_is p s.body m, droppable_same p h.version s.body m (taker s.body m), old_same p h.version m (taker s.body m))
+        rw (
+          taker_is p s.body m,
+          droppable_same p h.version s.body m (taker s.body m),
+          old_same p h.version m (taker s.body m),
+          earning_drop_same p h.version m taking (taker s.body m),
+        )
         (shown (observe_dropping h.version host s.body line taking answering m (taker s.body m)) _
         (drop_seen p h.version host s.body m taking (taker s.body m) may))
 host_step_seen p j h moment w fresh host s (network.Answers line) may = shows_same (observe_host_step h moment w fresh host s (network.Answers line)) refl

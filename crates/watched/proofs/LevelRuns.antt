@@ -17,7 +17,7 @@ use Rattle.window_rules.specs.declared.control.Profile.{Profile}
 use Rattle.spec_network.specs.HostRules.{step_rules}
 use Rattle.spec_network.specs.HostSteps.{Lawful, after}
 use Rattle.spec_network.specs.Hosts.{Stamped, Step, World}
-use Rattle.spec_network.specs.Tables.{on}
+use Rattle.spec_network.specs.Tables.{Both, on}
 use Rattle.spec_tcp.specs.Machine.{tcp, tcp_shape}
 use Rattle.spec_tcp.specs.Signals.{profile_of}
 use Rattle.spec_tcp.specs.declared.endpoint.Endpoint.{Endpoint}
@@ -32,15 +32,17 @@ use Rattle.spec_duties.specs.End.{any_unsent, either, first_waiting, is_brought_
 use Rattle.spec_duties.specs.declared.events.Event.{Event}
 use Rattle.spec_duties.specs.declared.events.Event.TheVariants.{Builds, Calls, Drops, Expires, Opens, Processes, Recovers, Sends}
 use Rattle.spec_duties.specs.Owed.{late_rules, none_late, owed_after}
+use Rattle.spec_duties.specs.Credits.{is_keep_alive, needs_credit}
 use Rattle.spec_duties.specs.Strict.{is_spared, strict_after, with_brought}
 use Rattle.spec_duties.specs.declared.strict.StrictOwed.{StrictOwed}
+use Rattle.spec_duties.specs.declared.strict.Unsent.{Unsent}
 use Rattle.spec_duties.specs.Resent.{is_repeating, is_resent, is_resent_beyond, judges_repeats, judges_windows}
 use Rattle.spec_duties.specs.Observations.{observe, view_in}
 use Rattle.spec_duties.specs.declared.observations.Observation.{Observation}
 use Rattle.spec_duties.specs.declared.observations.Sampling.{Sampling}
 use Rattle.spec_duties.specs.declared.observations.TouchedEndpoint.{TouchedEndpoint}
-use Rattle.spec_duties.specs.Watching.{Duties, brought_by, builds_mere_ack, built_after, built_by, counts_now, duties_after, duty_rules, strict_table_after}
-use Rattle.spec_duties.specs.Watching.{touched_rules, unsent_after}
+use Rattle.spec_duties.specs.Watching.{Duties, builds_mere_ack, built_after, built_by, counts_now, credits_after, duties_after, duty_rules}
+use Rattle.spec_duties.specs.Watching.{sent_by, strict_table_after, touched_rules, unsent_after}
 use Rattle.spec_duties.specs.declared.owed.Lates.{Lates}
 use Rattle.spec_duties.specs.declared.owed.Owed.{Owed}
 use Rattle.spec_duties.specs.declared.observations.BuiltChange.{BuiltChange}
@@ -90,16 +92,16 @@ built_same a b after moment None (built_change.Builds number) built = refl
 built_same a b after moment (Some t) (built_change.Builds number) built = rw (mere_same a b after t) refl
 built_same a b after moment o (built_change.Sends number) built = refl
 
-strict_same : (s : Sampling) (event : Event) (a b : ℕ) (before after : View) (moment : ℕ) (acknowledged : Option ℕ) (o : StrictOwed)
-    → strict_after s event (view_with a before) (view_with b after) moment acknowledged o ≡ strict_after s event before after moment acknowledged o
-strict_same s Opens a b before after moment acknowledged o = refl
-strict_same s (Calls abort) a b before after moment acknowledged o = refl
-strict_same s (Processes length rst) a b before after moment acknowledged o = refl
-strict_same s (Drops asks unlimited) a b before after moment acknowledged o = refl
-strict_same s (Builds m) a b before after moment acknowledged o = refl
-strict_same x (Sends s) a b before after moment acknowledged o = refl
-strict_same s (Expires timer) a b before after moment acknowledged o = refl
-strict_same s Recovers a b before after moment acknowledged o = refl
+strict_same : (s : Sampling) (event : Event) (a b : ℕ) (before after : View) (moment : ℕ) (acknowledged : Option ℕ) (keeps_alive : Bool) (o : StrictOwed)
+    → strict_after s event (view_with a before) (view_with b after) moment acknowledged keeps_alive o ≡ strict_after s event before after moment acknowledged keeps_alive o
+strict_same s Opens a b before after moment acknowledged keeps_alive o = refl
+strict_same s (Calls abort) a b before after moment acknowledged keeps_alive o = refl
+strict_same s (Processes length rst) a b before after moment acknowledged keeps_alive o = refl
+strict_same s (Drops asks unlimited) a b before after moment acknowledged keeps_alive o = refl
+strict_same s (Builds m) a b before after moment acknowledged keeps_alive o = refl
+strict_same x (Sends s) a b before after moment acknowledged keeps_alive o = refl
+strict_same s (Expires timer) a b before after moment acknowledged keeps_alive o = refl
+strict_same s Recovers a b before after moment acknowledged keeps_alive o = refl
 
 spared_same : (event : Event) (a : ℕ) (before : View) → is_spared event (view_with a before) ≡ is_spared event before
 spared_same (Builds m) a before = refl
@@ -111,38 +113,80 @@ spared_same (Sends s) a before = refl
 spared_same (Expires timer) a before = refl
 spared_same Recovers a before = refl
 
-unsent_same : (a moment : ℕ) (d : Duties) (o : Option TouchedEndpoint) (it : BuiltChange)
-    → unsent_after moment d (option_map (touched_with a) o) it ≡ unsent_after moment d o it
-unsent_same a moment d o built_change.Nothing = refl
-unsent_same a moment d None (built_change.Builds number) = refl
-unsent_same a moment d (Some t) (built_change.Builds number) = rw (spared_same t.event a t.before) refl
-unsent_same a moment d o (built_change.Sends number) = refl
+costs_same : (event : Event) (a b : ℕ) (before after : View) (moment : ℕ) (kept_alive : Option ℕ)
+    → needs_credit event (view_with a before) (view_with b after) moment kept_alive ≡ needs_credit event before after moment kept_alive
+costs_same (Builds m) a b before after moment kept_alive = refl
+costs_same Opens a b before after moment kept_alive = refl
+costs_same (Calls abort) a b before after moment kept_alive = refl
+costs_same (Processes length rst) a b before after moment kept_alive = refl
+costs_same (Drops asks unlimited) a b before after moment kept_alive = refl
+costs_same (Sends s) a b before after moment kept_alive = refl
+costs_same (Expires timer) a b before after moment kept_alive = refl
+costs_same Recovers a b before after moment kept_alive = refl
 
-table_same : (a b : ℕ) (after : View) (moment : ℕ) (d : Duties) (s : Sampling) (o : Option TouchedEndpoint)
-    → on (option_map (touched_with a) o) d.strict (strict_table_after (view_with b after) moment d s) ≡ on o d.strict (strict_table_after after moment d s)
-table_same a b after moment d s None = refl
-table_same a b after moment d s (Some t) = rw (strict_same s t.event a b t.before after moment _ _) refl
+alive_same : (event : Event) (a b : ℕ) (before after : View) → is_keep_alive event (view_with a before) (view_with b after) ≡ is_keep_alive event before after
+alive_same (Builds m) a b before after = refl
+alive_same Opens a b before after = refl
+alive_same (Calls abort) a b before after = refl
+alive_same (Processes length rst) a b before after = refl
+alive_same (Drops asks unlimited) a b before after = refl
+alive_same (Sends s) a b before after = refl
+alive_same (Expires timer) a b before after = refl
+alive_same Recovers a b before after = refl
 
-duties_same : (strict : Bool) (a b : ℕ) (after : View) (moment : ℕ) (s : Observation) (d : Duties)
-    → duties_after strict (view_with b after) moment (observed_with a s) d ≡ duties_after strict after moment s d
-duties_same strict a b after moment s d =
-    rw (built_same a b after moment s.touched s.built_change d.built) (rw (unsent_same a moment d s.touched s.built_change)
-    (rw (table_same a b after moment d s.sampling s.touched) (by s.touched)))
+unsent_same : (a b : ℕ) (after : View) (moment : ℕ) (d : Duties) (o : Option TouchedEndpoint) (it : BuiltChange)
+    → unsent_after (view_with b after) moment d (option_map (touched_with a) o) it ≡ unsent_after after moment d o it
+unsent_same a b after moment d o built_change.Nothing = refl
+unsent_same a b after moment d None (built_change.Builds number) = refl
+unsent_same a b after moment d (Some t) (built_change.Builds number) =
+    rw (spared_same t.event a t.before, costs_same t.event a b t.before after moment _, alive_same t.event a b t.before after) refl
+unsent_same a b after moment d o (built_change.Sends number) = refl
+
+table_same : (a b : ℕ) (after : View) (moment : ℕ) (d : Duties) (sent : Option Unsent) (s : Sampling) (o : Option TouchedEndpoint)
+    → on (option_map (touched_with a) o) d.strict (strict_table_after (view_with b after) moment d sent s)
+    ≡ on o d.strict (strict_table_after after moment d sent s)
+table_same a b after moment d sent s None = refl
+table_same a b after moment d sent s (Some t) = rw (strict_same s t.event a b t.before after moment _ _ _) refl
+
+credits_same : (a slack moment : ℕ) (d : Duties) (sent : Option Unsent) (earns : Bool) (o : Option TouchedEndpoint)
+    → on (option_map (touched_with a) o) d.credits (credits_after slack moment d sent earns) ≡ on o d.credits (credits_after slack moment d sent earns)
+credits_same a slack moment d sent earns None = refl
+credits_same a slack moment d sent earns (Some t) = refl
+
+duties_same : (strict : Bool) (slack a b : ℕ) (after : View) (moment : ℕ) (s : Observation) (d : Duties)
+    → duties_after strict slack (view_with b after) moment (observed_with a s) d ≡ duties_after strict slack after moment s d
+duties_same strict slack a b after moment s d =
+    rw (built_same a b after moment s.touched s.built_change d.built) (rw (unsent_same a b after moment d s.touched s.built_change)
+    (rw (table_same a b after moment d (sent_by d s.built_change) s.sampling s.touched)
+    (rw (credits_same a slack moment d (sent_by d s.built_change) s.earns s.touched) (by s.touched))))
   where
     with : Option TouchedEndpoint → Observation
     with o = record s { touched = o }
 
+    strict_now : Both (List (ℕ × StrictOwed))
+    strict_now =
+        if strict then on s.touched d.strict (strict_table_after after moment d (sent_by d s.built_change) s.sampling) else d.strict
+
+    credits_now : Both (List ℕ)
+    credits_now =
+        if strict then on s.touched d.credits (credits_after slack moment d (sent_by d s.built_change) s.earns) else d.credits
+
+    unsent_now : List (ℕ × Option Unsent)
+    unsent_now = if strict then unsent_after after moment d s.touched s.built_change else d.unsent
+
     by : (o : Option TouchedEndpoint)
         → (let x : Duties =
-        record (duties_after strict (view_with b after) moment (observed_with a (with o)) d) {
+        record (duties_after strict slack (view_with b after) moment (observed_with a (with o)) d) {
           built = built_after after moment s.touched s.built_change d.built;
-          strict = if strict then on s.touched d.strict (strict_table_after after moment d s.sampling) else d.strict;
-          unsent = if strict then unsent_after moment d s.touched s.built_change else d.unsent;
+          strict = strict_now;
+          unsent = unsent_now;
+          credits = credits_now;
         } in x)
-        ≡ record (duties_after strict after moment (with o) d) {
+        ≡ record (duties_after strict slack after moment (with o) d) {
           built = built_after after moment s.touched s.built_change d.built;
-          strict = if strict then on s.touched d.strict (strict_table_after after moment d s.sampling) else d.strict;
-          unsent = if strict then unsent_after moment d s.touched s.built_change else d.unsent;
+          strict = strict_now;
+          unsent = unsent_now;
+          credits = credits_now;
         }
     by None = refl
     by (Some t) =
@@ -194,14 +238,14 @@ beyond_less j k edge (Builds m) v le higher e =
     (nat_lt edge (m.pos + m.len)) (windows_less j k le) (below v.congestion_edge edge (m.pos + m.len) higher) e
 beyond_less j k edge _ v le higher e = refl
 
-touched_fewer : (j : Judged) (h : Header) (slack moment : ℕ) (d : Duties) (counts : Bool) (brought : Option ℕ) (s : Sampling) (edge : ℕ)
+touched_fewer : (j : Judged) (h : Header) (slack moment : ℕ) (d : Duties) (counts : Bool) (sent : Option Unsent) (s : Sampling) (edge : ℕ)
     (o : Option TouchedEndpoint)
     → extent j ≤ extent h.congestion
     → EndsBelow edge o
-    → AreFewer (on o [] (touched_rules h slack moment d counts brought s))
-    (on (option_map (touched_with edge) o) [] (touched_rules (header_by j h) slack moment d counts brought s))
-touched_fewer j h slack moment d counts brought s edge None le higher = tt
-touched_fewer j h slack moment d counts brought s edge (Some t) le higher = (
+    → AreFewer (on o [] (touched_rules h slack moment d counts sent s))
+    (on (option_map (touched_with edge) o) [] (touched_rules (header_by j h) slack moment d counts sent s))
+touched_fewer j h slack moment d counts sent s edge None le higher = tt
+touched_fewer j h slack moment d counts sent s edge (Some t) le higher = (
   λ e. e,
   (
     λ e. e,
@@ -242,7 +286,7 @@ rules_fewer j h moment d edge s (Some slack) le higher e =
           (
             λ e. e,
             touched_fewer j h slack moment d (counts_now (built_by d s.built_change))
-                (brought_by d s.built_change) s.sampling edge s.touched le higher,
+                (sent_by d s.built_change) s.sampling edge s.touched le higher,
           ),
         ),
       ),
@@ -298,13 +342,13 @@ noted_same : (j : Judged) (h : Header) (moment : ℕ) (w : World tcp_shape) (edg
     → noted_by (header_by j h) moment (world_judged j h w) (observed_with edge s) d ≡ noted_by h moment w s d
 noted_same j h moment w edge s d =
     let seen = view_seen (profile_of (header_by j h)) w edge s.touched in
-    ap (λ (v : View). on h.slack d (λ slack. duties_after (says_sender h.version) v moment (observed_with edge s) d)) seen.1 ∙ by seen.0 h.slack
+    ap (λ (v : View). on h.slack d (λ slack. duties_after (says_sender h.version) slack v moment (observed_with edge s) d)) seen.1 ∙ by seen.0 h.slack
   where
     by : (b : ℕ) (slack : Option ℕ)
-        → on slack d (λ slack. duties_after (says_sender h.version) (view_with b (view_in w s.touched)) moment (observed_with edge s) d)
-        ≡ on slack d (λ slack. duties_after (says_sender h.version) (view_in w s.touched) moment s d)
+        → on slack d (λ slack. duties_after (says_sender h.version) slack (view_with b (view_in w s.touched)) moment (observed_with edge s) d)
+        ≡ on slack d (λ slack. duties_after (says_sender h.version) slack (view_in w s.touched) moment s d)
     by b None = refl
-    by b (Some slack) = duties_same (says_sender h.version) edge b (view_in w s.touched) moment s d
+    by b (Some slack) = duties_same (says_sender h.version) slack edge b (view_in w s.touched) moment s d
 
 known_kept : (j : Judged) (h : Header) (moment : ℕ) (k : Known) (step : Step tcp_shape) → extent j ≤ extent h.congestion → IsJudged h k.model
     → known_after (header_by j h) moment (known_judged j h k) step ≡ known_judged j h (known_after h moment k step)

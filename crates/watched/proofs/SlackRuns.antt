@@ -1,14 +1,18 @@
--- Runs of a case with a greater slack: no more is refused, and the same is kept.
+-- Runs of a case with a greater slack: no more is refused, and the same is kept but for credits, of which no less are left.
 use Rattle.std.proofs.Common.{◌≡◌, ℕ, ◌≤◌, List, [], ◌∷◌, Option, None, Some, refl, ap, sym, subst, ◌∙◌}
+use Rattle.case_forms.specs.declared.calls.Host.{Host}
+use Rattle.case_forms.specs.declared.calls.Host.TheVariants.{Zero, One}
 use Rattle.case_forms.specs.declared.trace.Header.{Header}
 use Rattle.verdict.specs.Rules.{first_broken}
 use Rattle.spec_network.specs.HostSteps.{Lawful, after}
 use Rattle.spec_network.specs.Hosts.{Stamped, Step, World}
+use Rattle.spec_network.specs.Tables.{pick}
 use Rattle.spec_tcp.specs.Machine.{tcp, tcp_shape}
-use Rattle.duties.proofs.SlackLemmas.{dutiful_any, late_any, less_late}
-use Rattle.spec_duties.specs.Cases.{Dutiful, Known, judged_rules, known_after, known_after_all, late_at_end, noted_by, watch_rules}
+use Rattle.duties.proofs.SlackLemmas.{dutiful_any, late_any, less_late, slack_is_hardly_noted}
+use Rattle.spec_duties.specs.Cases.{Dutiful, Known, first_known, judged_rules, known_after, known_after_all, late_at_end, noted_by, watch_rules}
 use Rattle.spec_duties.specs.Observations.{observe}
-use Rattle.spec_duties.specs.Slack.{AtMost, with_slack}
+use Rattle.spec_duties.specs.Slack.{AreInOrder, AtMost, HasMoreCredits, credits_left, with_slack}
+use Rattle.spec_duties.specs.Watching.{Duties}
 use Rattle.spec_duties.specs.declared.observations.Observation.{Observation}
 use Rattle.watched.proofs.SlackLemmas.{after_same, rules_same, observed_same}
 
@@ -33,45 +37,89 @@ module _ (less more : ℕ) (le : less ≤ more) (h : Header) where
   seen : (moment : ℕ) (w : World tcp_shape) (step : Step tcp_shape) → observe a moment w step ≡ observe b moment w step
   seen moment w step = observed_same (Some less) h moment w step ∙ sym (observed_same (Some more) h moment w step)
 
-  known_same : (moment : ℕ) (k : Known) (step : Step tcp_shape) → known_after a moment k step ≡ known_after b moment k step
-  known_same moment k step =
-      ap (λ (w : World tcp_shape). known w (observe a moment k.model step))
-      (after_same (Some less) h moment k.model step ∙ sym (after_same (Some more) h moment k.model step))
-      ∙ ap (λ (s : Observation). known (after (tcp b) moment k.model step) s) (seen moment k.model step)
+  -- what is known in the one run and in the other: the same world, and the same duties but for credits
+  record IsAlike (few many : Known) : Type 0 where
+    model : many.model ≡ few.model
+    duties : HasMoreCredits few.duties many.duties
+
+  watch_passes : (moment : ℕ) (few many : Known) (step : Step tcp_shape) → IsAlike few many → first_broken (watch_rules a moment few step) ≡ None
+      → first_broken (watch_rules b moment many step) ≡ None
+  watch_passes moment few many step alike e =
+      ap (λ (s : Observation). first_broken (judged_rules b moment many.duties s))
+      (ap (λ (w : World tcp_shape). observe b moment w step) alike.model ∙ sym (seen moment few.model step))
+      ∙ (less_late (Some less) (Some more) le).steps h moment few.duties many.duties (observe a moment few.model step) alike.duties e
+
+  known_alike : (moment : ℕ) (few many : Known) (step : Step tcp_shape) → IsAlike few many → first_broken (watch_rules a moment few step) ≡ None
+      → IsAlike (known_after a moment few step) (known_after b moment many step)
+  known_alike moment few many step alike e = record {
+    model = world;
+    duties =
+        subst (λ (d : Duties). HasMoreCredits (noted_by a moment (after (tcp a) moment few.model step) (observe a moment few.model step) few.duties) d)
+        (sym noted)
+        (slack_is_hardly_noted h less more moment (after (tcp a) moment few.model step) (observe a moment few.model step) few.duties many.duties le
+        alike.duties e);
+  }
     where
-      known : World tcp_shape → Observation → Known
-      known w s = record { model = w; duties = noted_by a moment w s k.duties }
+      world : after (tcp b) moment many.model step ≡ after (tcp a) moment few.model step
+      world =
+          ap (λ (w : World tcp_shape). after (tcp b) moment w step) alike.model
+          ∙ after_same (Some more) h moment few.model step ∙ sym (after_same (Some less) h moment few.model step)
 
-  watch_passes : (moment : ℕ) (k : Known) (step : Step tcp_shape) → first_broken (watch_rules a moment k step) ≡ None
-      → first_broken (watch_rules b moment k step) ≡ None
-  watch_passes moment k step e =
-      ap (λ (s : Observation). first_broken (judged_rules b moment k.duties s)) (sym (seen moment k.model step))
-      ∙ (less_late (Some less) (Some more) le).steps h moment k.duties (observe a moment k.model step) e
+      noted : noted_by b moment (after (tcp b) moment many.model step) (observe b moment many.model step) many.duties
+          ≡ noted_by b moment (after (tcp a) moment few.model step) (observe a moment few.model step) many.duties
+      noted =
+          ap (λ (w : World tcp_shape). noted_by b moment w (observe b moment many.model step) many.duties) world
+          ∙ ap (λ (s : Observation). noted_by b moment (after (tcp a) moment few.model step) s many.duties)
+          (ap (λ (w : World tcp_shape). observe b moment w step) alike.model ∙ sym (seen moment few.model step))
 
-  dutiful_more : (k : Known) (xs : List (Stamped tcp_shape)) → Dutiful a k xs → Dutiful b k xs
-  dutiful_more k [] kept = tt
-  dutiful_more k (x ∷ xs) kept = (
-    watch_passes x.moment k x.step kept.0,
-    subst (λ (n : Known). Dutiful b n xs) (known_same x.moment k x.step) (dutiful_more (known_after a x.moment k x.step) xs kept.1),
+  dutiful_more : (few many : Known) (xs : List (Stamped tcp_shape)) → IsAlike few many → Dutiful a few xs → Dutiful b many xs
+  dutiful_more few many [] alike kept = tt
+  dutiful_more few many (x ∷ xs) alike kept = (
+    watch_passes x.moment few many x.step alike kept.0,
+    dutiful_more (known_after a x.moment few x.step) (known_after b x.moment many x.step) xs (known_alike x.moment few many x.step alike kept.0) kept.1,
   )
 
-  known_more : (k : Known) (xs : List (Stamped tcp_shape)) → known_after_all b k xs ≡ known_after_all a k xs
-  known_more k [] = refl
-  known_more k (x ∷ xs) =
-      ap (λ (n : Known). known_after_all b n xs) (sym (known_same x.moment k x.step)) ∙ known_more (known_after a x.moment k x.step) xs
+  known_more : (few many : Known) (xs : List (Stamped tcp_shape)) → IsAlike few many → Dutiful a few xs
+      → IsAlike (known_after_all a few xs) (known_after_all b many xs)
+  known_more few many [] alike kept = alike
+  known_more few many (x ∷ xs) alike kept =
+      known_more (known_after a x.moment few x.step) (known_after b x.moment many x.step) xs (known_alike x.moment few many x.step alike kept.0) kept.1
+
+  -- both begin alike
+  alike_first : IsAlike (first_known h) (first_known h)
+  alike_first = record {
+    model = refl;
+    duties = record { same = refl; left = λ host place moment. none host place moment; order = order };
+  }
+    where
+      none : (host : Host) (place moment : ℕ)
+          → credits_left place moment (pick (first_known h).duties.credits host) ≤ credits_left place moment (pick (first_known h).duties.credits host)
+      none host place moment = omega arith
+
+      order : (host : Host) → AreInOrder (pick (first_known h).duties.credits host)
+      order Zero = tt
+      order One = tt
+
+  end_more : (moment : ℕ) (few many : Known) → IsAlike few many → late_at_end a moment few ≡ None → late_at_end b moment many ≡ None
+  end_more moment few many alike none =
+      ap (λ (w : World tcp_shape). late_at_end b moment (record { model = w; duties = many.duties })) alike.model
+      ∙ (less_late (Some less) (Some more) le).end h moment few.model few.duties many.duties alike.duties none
 
 -- the case with a greater slack, or without one
-pub dutiful_with : (less more : Option ℕ) (h : Header) (k : Known) (xs : List (Stamped tcp_shape)) → AtMost less more → Dutiful (with_slack less h) k xs
-    → Dutiful (with_slack more h) k xs
-dutiful_with less None h k xs at kept = dutiful_any (with_slack None h) k xs refl
-dutiful_with None (Some more) h k xs at kept = absurd at
-dutiful_with (Some less) (Some more) h k xs at kept = dutiful_more less more at h k xs kept
+pub dutiful_with : (less more : Option ℕ) (h : Header) (xs : List (Stamped tcp_shape)) → AtMost less more
+    → Dutiful (with_slack less h) (first_known h) xs → Dutiful (with_slack more h) (first_known h) xs
+dutiful_with less None h xs at kept = dutiful_any (with_slack None h) (first_known h) xs refl
+dutiful_with None (Some more) h xs at kept = absurd at
+dutiful_with (Some less) (Some more) h xs at kept =
+    dutiful_more less more at h (first_known h) (first_known h) xs (alike_first less more at h) kept
 
-pub end_with : (less more : Option ℕ) (h : Header) (k : Known) (xs : List (Stamped tcp_shape)) (moment : ℕ) → AtMost less more
-    → late_at_end (with_slack less h) moment (known_after_all (with_slack less h) k xs) ≡ None
-    → late_at_end (with_slack more h) moment (known_after_all (with_slack more h) k xs) ≡ None
-end_with less None h k xs moment at none = late_any (with_slack None h) moment (known_after_all (with_slack None h) k xs) refl
-end_with None (Some more) h k xs moment at none = absurd at
-end_with (Some less) (Some more) h k xs moment at none =
-    ap (λ (n : Known). late_at_end (with_slack (Some more) h) moment n) (known_more less more at h k xs)
-    ∙ (less_late (Some less) (Some more) at).end h moment (known_after_all (with_slack (Some less) h) k xs) none
+pub end_with : (less more : Option ℕ) (h : Header) (xs : List (Stamped tcp_shape)) (moment : ℕ) → AtMost less more
+    → Dutiful (with_slack less h) (first_known h) xs
+    → late_at_end (with_slack less h) moment (known_after_all (with_slack less h) (first_known h) xs) ≡ None
+    → late_at_end (with_slack more h) moment (known_after_all (with_slack more h) (first_known h) xs) ≡ None
+end_with less None h xs moment at kept none = late_any (with_slack None h) moment (known_after_all (with_slack None h) (first_known h) xs) refl
+end_with None (Some more) h xs moment at kept none = absurd at
+end_with (Some less) (Some more) h xs moment at kept none =
+    end_more less more at h moment (known_after_all (with_slack (Some less) h) (first_known h) xs)
+    (known_after_all (with_slack (Some more) h) (first_known h) xs)
+    (known_more less more at h (first_known h) (first_known h) xs (alike_first less more at h) kept) none

@@ -122,7 +122,7 @@ fn watch(
     };
     duties.admits(world.header(), slack, moment, seen)?;
     let strict = world.header().version.says_sender();
-    duties.note(strict, moment, seen, &view_in(world, &seen.touched))?;
+    duties.note(strict, slack, moment, seen, &view_in(world, &seen.touched))?;
     Ok(())
 }
 

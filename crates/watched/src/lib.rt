@@ -7,13 +7,14 @@
 //!
 //! - `cases`: a case with its duties: each step, and the comparison at the end
 //! - `observations`: what a step shows of the world; `calls`: the same for the effect of a call; `dropped`: for a
-//!   segment that is dropped; `sampling`: whether a round trip is measured
+//!   segment that is dropped; `sampling`: whether a round trip is measured; `credits`: whether a credit is earned
 //! - `case_end`: what is late at the end; `laws`: what duties read of the world and of the header
 #![tactic(auto)]
 
 mod calls;
 mod case_end;
 mod cases;
+mod credits;
 mod dropped;
 mod laws;
 mod observations;

@@ -19,6 +19,7 @@ ghost use Rattle.spec_duties.specs.declared.observations.InboxChange.TheVariants
 ghost use Rattle.watched.specs.Targets.{taker_at};
 
 use crate::calls::observe_effect;
+use crate::credits::{earns_by_dropping, earns_by_taking};
 use crate::dropped::{
     admits_answering, admits_processing, discards_at, droppable_by, is_old, target_of,
 };
@@ -49,6 +50,7 @@ pub(crate) fn unseen() -> Observation
         dropping: None,
         discards: false,
         sampling: Sampling::Nothing,
+        earns: false,
     }
 }
 
@@ -204,6 +206,7 @@ fn observe_drop(world: &World, host: Host, line: u64, moment: u64) -> Observatio
         touched: at_drop(version, host, body, m, processing, target),
         inbox_change: InboxChange::Leaves(line),
         dropping: Some(dropping_of(host, processing, answering, droppable, old)),
+        earns: earns_by_dropping(version, body, m, processing, target),
         ..unseen()
     }
 }
@@ -232,6 +235,7 @@ pub(crate) fn observe_taking(
         inbox_change: InboxChange::Leaves(line),
         discards: discards_at(version, body, how, m, target),
         sampling: sampling_at(version, body, how, m, target),
+        earns: earns_by_taking(version, body, m, target),
         ..unseen()
     }
 }

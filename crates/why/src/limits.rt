@@ -1,8 +1,9 @@
 //! The limits: what may be dropped or discarded, and how often something is sent.
 
 use crate::late::describe_touched;
-use crate::scene::{Building, Scene};
+use crate::scene::{Building, Object, Scene};
 use case_forms::{Label, OutOfMemory, TakeChoice};
+use duties::earliest_credit;
 use endpoint_state::Endpoint;
 use spec_duties::Owed;
 use spec_tcp::Arrived;
@@ -59,12 +60,31 @@ pub(crate) fn resent(out: &mut String, scene: &Scene, it: Building) -> Result<()
 /// For how many segments an acknowledgment may still be sent.
 pub(crate) fn ack_excess(out: &mut String, scene: &Scene) -> Result<(), OutOfMemory> {
     describe_touched(out, scene)?;
+    if scene.header().version.says_sender() {
+        return credits_left(out, scene);
+    }
     let Some(Owed { answers, .. }) = owed_by_touched(scene) else {
         return Ok(());
     };
     writeln!(
         out,
         "answers is {answers}: as many acknowledgments were sent as segments came"
+    )
+}
+
+// The same in version 6: from which moment on it needs a credit.
+fn credits_left(out: &mut String, scene: &Scene) -> Result<(), OutOfMemory> {
+    let (Object::Sent(_, number, _), Some(slack)) = (scene.object(), scene.header().slack) else {
+        return Ok(());
+    };
+    let Some(built) = scene.duties.built_since(number) else {
+        return Ok(());
+    };
+    let from = earliest_credit(slack, built);
+    writeln!(
+        out,
+        "segment {number} was built at {built}; it needs a credit that the endpoint earned at {from} or later, and 0 \
+are left"
     )
 }
 

@@ -59,7 +59,7 @@ impl Watch {
     fn note(self, world: &World, duties: &mut Duties, seen: &Observation) -> Result<(), StepFault> {
         let now = view_in(world, &seen.touched);
         let strict = world.header().version.says_sender();
-        duties.note(strict, self.moment, seen, &now)?;
+        duties.note(strict, self.slack, self.moment, seen, &now)?;
         Ok(())
     }
 

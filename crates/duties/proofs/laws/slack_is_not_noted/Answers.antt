@@ -1,5 +1,0 @@
-use Rattle.duties.proofs.SlackLemmas.{slack_is_not_noted}
-use Rattle.duties.proofs.laws.slack_is_not_noted.Goals as goal
-
-pub returns : goal.returns
-returns c = slack_is_not_noted
