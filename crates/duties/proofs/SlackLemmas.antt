@@ -14,6 +14,9 @@ use Rattle.spec_network.specs.Tables.{on, waiting}
 use Rattle.spec_tcp.specs.Machine.{tcp_shape}
 use Rattle.spec_tcp.specs.declared.endpoint.Endpoint.{Endpoint}
 use Rattle.spec_duties.specs.Acknowledge.{acknowledge_due}
+use Rattle.spec_duties.specs.Answering.{Waits, answer_due, answer_since, answered_since, any_call, is_unanswered_late, owed_at_end}
+use Rattle.spec_duties.specs.declared.answering.CallChange.{CallChange}
+use Rattle.spec_duties.specs.declared.answering.OpenCall.{OpenCall}
 use Rattle.spec_duties.specs.Cases.{Known, Dutiful, judged_rules, known_after, late_at_end}
 use Rattle.spec_duties.specs.Deadlines.{is_late}
 use Rattle.spec_duties.specs.End as end
@@ -28,7 +31,8 @@ use Rattle.spec_duties.specs.Start.{start_due}
 use Rattle.spec_duties.specs.Strict.{coarse_expiry_due, coarse_probing_due, strict_lates, with_brought}
 use Rattle.spec_duties.specs.Views.{view_of}
 use Rattle.spec_duties.specs.Watching.{Duties, brought_by, built_by, counts_now, duty_rules, judged_lates, leaves_late, listener_closed, owed_by, sent_late}
-use Rattle.spec_duties.specs.Watching.{strict_by, touched_rules}
+use Rattle.spec_duties.specs.Watching.{answer_rules, strict_by, touched_rules}
+use Rattle.spec_duties.specs.declared.answering.OpenCall.TheVariants as open_call
 use Rattle.spec_duties.specs.declared.owed.Lates.{Lates}
 use Rattle.spec_duties.specs.declared.owed.Owed.{Owed}
 use Rattle.spec_duties.specs.declared.observations.InboxChange.{InboxChange}
@@ -215,11 +219,12 @@ sent_less slack more moment None le e = refl
 sent_less slack more moment (Some b) le e = late_less slack more moment (Some b.since) le e
 
 touched_less : (h : Header) (slack more moment : ℕ) (d : Duties) (counts : Bool) (brought : Option ℕ) (s : Sampling) (o : Option TouchedEndpoint)
+    (change : CallChange)
     → slack ≤ more
-    → AreFewer (on o [] (touched_rules (with_slack (Some slack) h) slack moment d counts brought s))
-    (on o [] (touched_rules (with_slack (Some more) h) more moment d counts brought s))
-touched_less h slack more moment d counts brought s None le = tt
-touched_less h slack more moment d counts brought s (Some t) le =
+    → AreFewer (on o (answer_rules slack moment d change) (touched_rules (with_slack (Some slack) h) slack moment d counts brought s))
+    (on o (answer_rules more moment d change) (touched_rules (with_slack (Some more) h) more moment d counts brought s))
+touched_less h slack more moment d counts brought s None change le = (late_less slack more moment (answer_due (answer_since d.waits change)) le, tt)
+touched_less h slack more moment d counts brought s (Some t) change le =
     let l = judged_less h slack more moment d brought t.host t.place t.before le in
     (l.acknowledge, (l.expire, (l.retransmit, (l.probe, (l.start, (l.reset, (λ e. e, (λ e. e, (λ e. e, (λ e. e, tt))))))))))
 
@@ -238,7 +243,7 @@ step_less (Some slack) (Some more) at h moment d s e =
           (
             sent_less slack more moment (built_by d s.built_change) at,
             touched_less h slack more moment d
-                (counts_now (built_by d s.built_change)) (brought_by d s.built_change) s.sampling s.touched at,
+                (counts_now (built_by d s.built_change)) (brought_by d s.built_change) s.sampling s.touched s.call_change at,
           ),
         ),
       ),
@@ -287,6 +292,24 @@ unsent_less f g less (x ∷ entries) e =
     by None e = refl
     by (Some u) e = less u e
 
+-- a call whose answer its program didn't get
+call_less : (h : Header) (slack more moment : ℕ) (w : World tcp_shape) (a : Waits) → slack ≤ more → (entries : List (ℕ × Option OpenCall))
+    → any_call (is_unanswered_late (with_slack (Some slack) h) slack moment w a) entries ≡ false
+    → any_call (is_unanswered_late (with_slack (Some more) h) more moment w a) entries ≡ false
+call_less h slack more moment w a le [] e = refl
+call_less h slack more moment w a le (x ∷ entries) e =
+    or_less _ (any_call (is_unanswered_late (with_slack (Some slack) h) slack moment w a) entries) _
+    (any_call (is_unanswered_late (with_slack (Some more) h) more moment w a) entries) (by x.1)
+    (call_less h slack more moment w a le entries) e
+  where
+    by : (o : Option OpenCall) → option_map_or (is_unanswered_late (with_slack (Some slack) h) slack moment w a) o false ≡ false
+        → option_map_or (is_unanswered_late (with_slack (Some more) h) more moment w a) o false ≡ false
+    by None e = refl
+    by (Some (open_call.Waits since socket awaited)) e =
+        late_less slack more moment (answer_due (owed_at_end h w a (open_call.Waits since socket awaited))) le e
+    by (Some (open_call.Answered since host target)) e =
+        late_less slack more moment (answer_due (answered_since a (open_call.Answered since host target))) le e
+
 from_less : (h : Header) (slack more moment : ℕ) (d : Duties) (host : Host) (place : ℕ) (a b : Lates) (es : List Endpoint) → slack ≤ more → LatesLess a b
     → LatesLess (lates_from (with_slack (Some slack) h) slack moment d host place a es) (lates_from (with_slack (Some more) h) more moment d host place b es)
 from_less h slack more moment d host place a b [] le f = f
@@ -319,7 +342,16 @@ end_less (Some slack) (Some more) at h moment k e =
     fewer_none (end_rules (with_slack (Some slack) h) slack moment k.duties k.model)
     (end_rules (with_slack (Some more) h) more moment k.duties k.model) (
       waiting_less slack more moment k.duties.inbox at,
-      (sent, (l.acknowledge, (l.expire, (l.retransmit, (l.probe, (l.start, (l.reset, tt))))))),
+      (
+        sent,
+        (
+          l.acknowledge,
+          (
+            l.expire,
+            (l.retransmit, (l.probe, (l.start, (l.reset, (call_less h slack more moment k.model k.duties.waits at k.duties.waits.threads, tt))))),
+          ),
+        ),
+      ),
     )
     (mapped_none _ (first_broken (end_rules (with_slack (Some slack) h) slack moment k.duties k.model)) e) in
     ap (option_map (λ rule. (end.line_of (first_waiting more moment k.duties.inbox) rule, rule))) none

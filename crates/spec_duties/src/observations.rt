@@ -1,5 +1,6 @@
 //! All that duties read of the world at a step.
 
+use crate::answering::{CallChange, SocketChange};
 use crate::events::Event;
 use crate::views::View;
 use case_forms::Host;
@@ -91,4 +92,7 @@ pub struct Observation {
     /// Whether the step discards what is next in order.
     pub discards: bool,
     pub sampling: Sampling,
+    /// What it does to the call of a thread, and to a socket. Versions 1 to 5 don't ask.
+    pub call_change: CallChange,
+    pub socket_change: SocketChange,
 }

@@ -41,7 +41,7 @@ endpoint_allows-forget (calls.Close n) answers.Done e = refl
 endpoint_allows-forget (calls.Abort n) answers.Done e = refl
 endpoint_allows-forget _ _ e = refl
 
-target-forget : (b : HostTcp) (call : Call) (answer : Answer) (target : SocketTarget)
+pub target-forget : (b : HostTcp) (call : Call) (answer : Answer) (target : SocketTarget)
     → target_allows (forget_body b) call answer target ≡ target_allows b call answer target
 target-forget b call answer (ListenerAt l) = refl
 target-forget b call answer (EndpointAt i) =

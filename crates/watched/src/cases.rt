@@ -19,6 +19,7 @@ use crate::case_end;
 use crate::observations::{
     observe_hidden, observe_line, observe_making, observe_sending, observe_taking, view_in,
 };
+use crate::waiting::note_waits;
 use case_forms::{Event, Extras, Header, Line, TakenLine};
 use duties::{Duties, judged_slack};
 use endpoint_state::{StepFault, World};
@@ -123,6 +124,9 @@ fn watch(
     duties.admits(world.header(), slack, moment, seen)?;
     let strict = world.header().version.says_sender();
     duties.note(strict, moment, seen, &view_in(world, &seen.touched))?;
+    if strict {
+        note_waits(world, duties, moment, seen)?;
+    }
     Ok(())
 }
 
@@ -151,7 +155,8 @@ fn watch_step<S: ModelStep>(
     }
 }
 
-// Whether duties judge nothing of a step that takes a line: the header says `any`, or a call begins or ends.
+// Whether duties judge nothing of a step that takes a line: the header says `any`, or a call begins or ends in versions
+// 1 to 5.
 #[tactic(auto, using(crate::proofs::CaseLemmas::begin_is_plain, crate::proofs::CaseLemmas::end_is_plain))]
 #[inline(always)]
 fn is_plain(header: &Header, line: &Line) -> bool
@@ -161,7 +166,7 @@ fn is_plain(header: &Header, line: &Line) -> bool
         return true;
     }
     match &line.event {
-        Event::CallBegin(_) | Event::CallEnd(_) => true,
+        Event::CallBegin(_) | Event::CallEnd(_) => !header.version.says_sender(),
         Event::Sent(_, _) | Event::Came(_, _) | Event::Expired(_, _, _, _) => false,
     }
 }

@@ -8,6 +8,7 @@
 //! - `cases`: a case with its duties: each step, and the comparison at the end
 //! - `observations`: what a step shows of the world; `calls`: the same for the effect of a call; `dropped`: for a
 //!   segment that is dropped; `sampling`: whether a round trip is measured
+//! - `waiting`: calls that wait, and what is kept of them
 //! - `case_end`: what is late at the end; `laws`: what duties read of the world and of the header
 #![tactic(auto)]
 
@@ -18,6 +19,7 @@ mod dropped;
 mod laws;
 mod observations;
 mod sampling;
+mod waiting;
 
 pub use case_end::late_at_end;
 pub use cases::{Case, apply_hidden, take_line};
