@@ -168,14 +168,19 @@ fn is_unanswered_late(at: End<'_>, duties: &Duties, world: &World, call: OpenCal
 }
 
 // Whether one is to any call.
-fn is_any_answer_late(at: End<'_>, duties: &Duties, world: &World) -> bool
+fn is_any_answer_late(
+    at: End<'_>,
+    duties: &Duties,
+    world: &World,
+    calls: &[(u64, Option<OpenCall>)],
+) -> bool
     ensures { result ≡ any_call
         (is_unanswered_late at.entry.header.now at.entry.slack at.entry.moment world.now.world duties.now.waits)
-        duties.now.waits.threads }
+        calls.now }
 {
-    for entry in duties.open_calls() {
-        if let Some(call) = entry.1 {
-            if is_unanswered_late(at, duties, world, call) {
+    for entry in calls {
+        if let Some(call) = &entry.1 {
+            if is_unanswered_late(at, duties, world, *call) {
                 return true;
             }
         }
@@ -210,7 +215,7 @@ pub fn late_at_end(
     if let Err(rule) = admits_lates(with_brought(brought, lates_of_all(at, duties, world))) {
         return Some((0, rule));
     }
-    if is_any_answer_late(at, duties, world) {
+    if is_any_answer_late(at, duties, world, duties.open_calls()) {
         return Some((0, Rule::AnswerLate));
     }
     None

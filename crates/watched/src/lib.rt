@@ -28,3 +28,4 @@ pub use laws::{
     slack_is_not_read,
 };
 pub use observations::{observe_hidden, observe_line, view_in};
+pub use waiting::{note_waits, waiting_on};

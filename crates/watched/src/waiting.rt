@@ -32,7 +32,7 @@ fn is_again(answer: &Answer) -> bool
 }
 
 /// A call that waits on this socket number, if that is live.
-pub(crate) fn waiting_on(world: &World, awaited: Awaited, socket: u32) -> Option<Waiting>
+pub fn waiting_on(world: &World, awaited: Awaited, socket: u32) -> Option<Waiting>
     ensures { (h : Header) → result ≡ waiting_on h world.now.world awaited socket }
 {
     let host = giver(world, socket)?;
@@ -333,7 +333,7 @@ fn note_socket(
 
 /// Notes what is kept of calls that wait after a step that shows this and leads to this world. If memory runs out, the
 /// duties are of no use any more.
-pub(crate) fn note_waits(
+pub fn note_waits(
     world: &World,
     duties: &mut Duties,
     moment: u64,
