@@ -17,6 +17,9 @@ use Rattle.spec_network.specs.Tables.{Both, on, pick, waiting, with_host}
 use Rattle.spec_tcp.specs.Machine.{tcp_shape}
 use Rattle.spec_tcp.specs.declared.endpoint.Endpoint.{Endpoint}
 use Rattle.spec_duties.specs.Acknowledge.{acknowledge_due}
+use Rattle.spec_duties.specs.Answering.{Waits, answer_due, answer_since, answered_since, any_call, is_unanswered_late, owed_at_end}
+use Rattle.spec_duties.specs.declared.answering.CallChange.{CallChange}
+use Rattle.spec_duties.specs.declared.answering.OpenCall.{OpenCall}
 use Rattle.spec_duties.specs.Cases.{Known, Dutiful, judged_rules, known_after, late_at_end, noted_by}
 use Rattle.spec_duties.specs.Credits.{credit_of, earliest_credit, has_credit, spent}
 use Rattle.spec_duties.specs.Deadlines.{is_late}
@@ -33,7 +36,8 @@ use Rattle.spec_duties.specs.Start.{start_due}
 use Rattle.spec_duties.specs.Strict.{coarse_expiry_due, coarse_probing_due, strict_lates, with_brought}
 use Rattle.spec_duties.specs.Views.{view_of}
 use Rattle.spec_duties.specs.Watching.{Duties, brought_by, built_by, counts_now, credits_after, credits_earned, credits_spent, duty_rules, judged_lates, lacks_credit}
-use Rattle.spec_duties.specs.Watching.{leaves_late, listener_closed, owed_by, sends_in_excess, sent_by, sent_late, strict_by, touched_rules}
+use Rattle.spec_duties.specs.Watching.{answer_rules, leaves_late, listener_closed, owed_by, sends_in_excess, sent_by, sent_late, strict_by, touched_rules}
+use Rattle.spec_duties.specs.declared.answering.OpenCall.TheVariants as open_call
 use Rattle.spec_duties.specs.declared.owed.Lates.{Lates}
 use Rattle.spec_duties.specs.declared.owed.Owed.{Owed}
 use Rattle.spec_duties.specs.declared.observations.InboxChange.{InboxChange}
@@ -258,13 +262,14 @@ excess_less h slack more d c sent t le left = by (says_sender h.version) sent
     by true (Some u) e = lacks_less slack more d c t.host t.place u le left e
 
 touched_less : (h : Header) (slack more moment : ℕ) (d : Duties) (c : Both (List ℕ)) (counts : Bool) (sent : Option Unsent) (s : Sampling)
-    (o : Option TouchedEndpoint)
+    (o : Option TouchedEndpoint) (change : CallChange)
     → slack ≤ more
     → AreMore d.credits c
-    → AreFewer (on o [] (touched_rules (with_slack (Some slack) h) slack moment d counts sent s))
-    (on o [] (touched_rules (with_slack (Some more) h) more moment (with_credits c d) counts sent s))
-touched_less h slack more moment d c counts sent s None le left = tt
-touched_less h slack more moment d c counts sent s (Some t) le left =
+    → AreFewer (on o (answer_rules slack moment d change) (touched_rules (with_slack (Some slack) h) slack moment d counts sent s))
+    (on o (answer_rules more moment (with_credits c d) change) (touched_rules (with_slack (Some more) h) more moment (with_credits c d) counts sent s))
+touched_less h slack more moment d c counts sent s None change le left =
+    (late_less slack more moment (answer_due (answer_since d.waits change)) le, tt)
+touched_less h slack more moment d c counts sent s (Some t) change le left =
     let l = judged_less h slack more moment d (brought_by sent) t.host t.place t.before le in
     let excess =
     or_less (is_excess counts (owed_by d t.host t.place).answers) (sends_in_excess (with_slack (Some slack) h) slack d sent t)
@@ -288,7 +293,7 @@ step_less (Some slack) (Some more) at h moment d c s left e =
           (
             sent_less slack more moment (built_by d s.built_change) at,
             touched_less h slack more moment d c
-                (counts_now (built_by d s.built_change)) (sent_by d s.built_change) s.sampling s.touched at left,
+                (counts_now (built_by d s.built_change)) (sent_by d s.built_change) s.sampling s.touched s.call_change at left,
           ),
         ),
       ),
@@ -337,6 +342,24 @@ unsent_less f g less (x ∷ entries) e =
     by None e = refl
     by (Some u) e = less u e
 
+-- a call whose answer its program didn't get
+call_less : (h : Header) (slack more moment : ℕ) (w : World tcp_shape) (a : Waits) → slack ≤ more → (entries : List (ℕ × Option OpenCall))
+    → any_call (is_unanswered_late (with_slack (Some slack) h) slack moment w a) entries ≡ false
+    → any_call (is_unanswered_late (with_slack (Some more) h) more moment w a) entries ≡ false
+call_less h slack more moment w a le [] e = refl
+call_less h slack more moment w a le (x ∷ entries) e =
+    or_less _ (any_call (is_unanswered_late (with_slack (Some slack) h) slack moment w a) entries) _
+    (any_call (is_unanswered_late (with_slack (Some more) h) more moment w a) entries) (by x.1)
+    (call_less h slack more moment w a le entries) e
+  where
+    by : (o : Option OpenCall) → option_map_or (is_unanswered_late (with_slack (Some slack) h) slack moment w a) o false ≡ false
+        → option_map_or (is_unanswered_late (with_slack (Some more) h) more moment w a) o false ≡ false
+    by None e = refl
+    by (Some (open_call.Waits since socket awaited)) e =
+        late_less slack more moment (answer_due (owed_at_end h w a (open_call.Waits since socket awaited))) le e
+    by (Some (open_call.Answered since host target)) e =
+        late_less slack more moment (answer_due (answered_since a (open_call.Answered since host target))) le e
+
 from_less : (h : Header) (slack more moment : ℕ) (d : Duties) (host : Host) (place : ℕ) (a b : Lates) (es : List Endpoint) → slack ≤ more → LatesLess a b
     → LatesLess (lates_from (with_slack (Some slack) h) slack moment d host place a es) (lates_from (with_slack (Some more) h) more moment d host place b es)
 from_less h slack more moment d host place a b [] le f = f
@@ -369,7 +392,16 @@ end_less (Some slack) (Some more) at h moment k e =
     fewer_none (end_rules (with_slack (Some slack) h) slack moment k.duties k.model)
     (end_rules (with_slack (Some more) h) more moment k.duties k.model) (
       waiting_less slack more moment k.duties.inbox at,
-      (sent, (l.acknowledge, (l.expire, (l.retransmit, (l.probe, (l.start, (l.reset, tt))))))),
+      (
+        sent,
+        (
+          l.acknowledge,
+          (
+            l.expire,
+            (l.retransmit, (l.probe, (l.start, (l.reset, (call_less h slack more moment k.model k.duties.waits at k.duties.waits.threads, tt))))),
+          ),
+        ),
+      ),
     )
     (mapped_none _ (first_broken (end_rules (with_slack (Some slack) h) slack moment k.duties k.model)) e) in
     ap (option_map (λ rule. (end.line_of (first_waiting more moment k.duties.inbox) rule, rule))) none

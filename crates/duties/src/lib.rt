@@ -8,6 +8,7 @@
 //! - `steps`: the rules of a step, and what is kept after it; `steps/strict`: the same for the stricter duties
 //! - `owed`: what an endpoint owes; `acknowledge`, `expire`, `retransmit`, `probe`, `start`, `reset`: a duty each
 //! - `strict`: the duties that version 6 changes; `strict_tables`: what is kept for them
+//! - `answering`: by when a call that waits is answered; `answer_tables`, `steps/answers`: what is kept of such calls
 //! - `resent`, `excess`, `credits`: the limits; `sampling`: when round trips are measured at least
 //! - `dropped`: which segments may be dropped, and what a dropped one asks for
 //! - `views`, `deadlines`: what duties read of an endpoint; when one is late
@@ -19,6 +20,8 @@
 #![tactic(auto)]
 
 mod acknowledge;
+mod answer_tables;
+mod answering;
 mod credits;
 mod deadlines;
 mod dropped;
@@ -39,6 +42,7 @@ mod strict_tables;
 mod views;
 
 pub use acknowledge::acknowledge_due;
+pub use answering::{answer_due, unanswered_since};
 pub use credits::earliest_credit;
 pub use deadlines::{is_late, is_late_at_once, judged_slack};
 pub use dropped::{

@@ -17,9 +17,11 @@ ghost use Rattle.spec_duties.specs.Watching.{joined, leaves_late, left, limit_ru
 ghost use Rattle.spec_duties.specs.Watching.{listening_at, moved, moved_by, new_listening, owed_by, owed_table_after};
 ghost use Rattle.spec_duties.specs.Watching.{queued, sent_late, start, touched_rules};
 
+mod answers;
 mod strict;
 
 use self::strict::brought_by;
+use crate::answer_tables::AnswerTables;
 use crate::deadlines::is_late_at_once;
 use crate::excess::{is_excess, is_mere_ack, one_more};
 use crate::owed::{admits_lates, admits_owed, nothing, owed_after, owed_open};
@@ -38,7 +40,8 @@ use tables::Table;
 use verdict::Rule;
 
 /// What duties keep: what each endpoint owes, each listener's children, since when each segment in an inbox waits, and
-/// when each segment was built that isn't sent yet. The last is for the stricter duties of version 6.
+/// when each segment was built that isn't sent yet. The last two are for version 6: its stricter duties, and calls that
+/// wait.
 #[derive(Drop)]
 pub struct Duties {
     owed: PerHost<Table<Owed>>,
@@ -46,6 +49,7 @@ pub struct Duties {
     inbox: Table<Option<u64>>,
     built: Table<Option<Built>>,
     strict: StrictTables,
+    waits: AnswerTables,
 }
 
 impl Model for Duties {
@@ -62,6 +66,7 @@ impl Model for Duties {
       strict = a.strict.owed;
       unsent = a.strict.unsent;
       credits = a.strict.credits;
+      waits = a.waits;
     } };
 }
 
@@ -76,6 +81,7 @@ impl Duties {
             inbox: Table::new(alloc),
             built: Table::new(alloc),
             strict: StrictTables::new(alloc),
+            waits: AnswerTables::new(alloc),
         }
     }
 
@@ -285,7 +291,7 @@ impl Duties {
             Some(touched) => {
                 self.admits_touched(header, slack, moment, counts_now(built), seen, touched)
             }
-            None => Ok(()),
+            None => self.admits_answer(slack, moment, seen.call_change),
         }
     }
 }

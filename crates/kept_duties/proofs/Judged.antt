@@ -1,11 +1,12 @@
 -- Which duties of an endpoint are late: in versions 1 to 5 by the plain ones, in version 6 by the stricter ones.
-use Rattle.std.proofs.Common.{◌≡◌, ℕ, Bool, true, false, Option, refl, ap}
+use Rattle.std.proofs.Common.{◌≡◌, ℕ, Bool, true, false, [], ◌∷◌, ◌++◌, Option, refl, ap}
 use Rattle.std.specs.Prelude.{◌||◌, if◌then◌else◌}
 use Rattle.std.specs.List.{AllByRecursion}
 use Rattle.case_forms.specs.States.{is_closed}
 use Rattle.case_forms.specs.Versions.{says_sender}
 use Rattle.case_forms.specs.declared.calls.Host.{Host}
 use Rattle.case_forms.specs.declared.trace.Header.{Header}
+use Rattle.verdict.specs.declared.rule.Rule.{Rule}
 use Rattle.spec_duties.specs.Acknowledge.{acknowledge_due}
 use Rattle.spec_duties.specs.Deadlines.{is_late}
 use Rattle.spec_duties.specs.Owed.{late_rules, lates_of}
@@ -66,6 +67,11 @@ pub unbrought : (late : Bool) (l : Lates) → AllByRecursion (λ r. r.1 ≡ fals
     → AllByRecursion (λ r. r.1 ≡ false) (late_rules l)
 unbrought true l rules = absurd (let e : true ≡ false = rules.0 in cc e)
 unbrought false l rules = rules
+
+-- what is late, without a rule after it
+pub without_last : (l : Lates) (r : Rule × Bool) → AllByRecursion (λ r. r.1 ≡ false) (late_rules l ++ r ∷ [])
+    → AllByRecursion (λ r. r.1 ≡ false) (late_rules l)
+without_last l r all = (all.0, (all.1.0, (all.1.1.0, (all.1.1.1.0, (all.1.1.1.1.0, (all.1.1.1.1.1.0, tt))))))
 
 -- a reset is, and the beginning of work
 pub reset_same : (h : Header) (slack : ℕ) → IsSame (λ l. l.reset) h slack

@@ -96,12 +96,14 @@ quiet_call host b (calls.Abort n) answer =
     quiet_on (socket_target b n) (observe_close host b (is_done answer) answer) (quiet_close host b (is_done answer) answer)
 quiet_call host b call answer = record { inbox_change = refl; built_change = refl }
 
-quiet_effect : (h : Header) (w : World tcp_shape) (answer : Answer) (u : Turn tcp_shape) → Quiet (observe_effect h w answer u)
-quiet_effect h w answer Idle = record { inbox_change = refl; built_change = refl }
-quiet_effect h w answer (Called call) =
+quiet_effect : (h : Header) (w : World tcp_shape) (thread : ℕ) (answer : Answer) (u : Turn tcp_shape) → Quiet (observe_effect h w thread answer u)
+quiet_effect h w thread answer Idle = record { inbox_change = refl; built_change = refl }
+quiet_effect h w thread answer (Called call) =
+    let quiet =
     quiet_on (aim_of (tcp h) w.hosts (aim call)) (λ host. observe_call host (pick w.hosts host).body call answer)
-    (λ host. quiet_call host (pick w.hosts host).body call answer)
-quiet_effect h w answer (Answered given) = record { inbox_change = refl; built_change = refl }
+    (λ host. quiet_call host (pick w.hosts host).body call answer) in
+    record { inbox_change = quiet.inbox_change; built_change = quiet.built_change }
+quiet_effect h w thread answer (Answered given) = record { inbox_change = refl; built_change = refl }
 
 -- ---- from what a step shows to the step
 
@@ -114,7 +116,7 @@ pub inbox_change_of : (h : Header) (moment : ℕ) (w : World tcp_shape) (step : 
 inbox_change_of h moment w (Begin line thread call) = tt
 inbox_change_of h moment w (Finish line thread answer) = tt
 inbox_change_of h moment w (Effect thread answer) =
-    subst (λ m. InboxChangeOf m (Effect thread answer)) (sym (quiet_effect h w answer (turn_of thread w.threads)).inbox_change) tt
+    subst (λ m. InboxChangeOf m (Effect thread answer)) (sym (quiet_effect h w thread answer (turn_of thread w.threads)).inbox_change) tt
 inbox_change_of h moment w (At host (Does x)) = tt
 inbox_change_of h moment w (At host (Expires line x)) = tt
 inbox_change_of h moment w (At host (Makes m)) = tt
@@ -141,7 +143,7 @@ pub built_change_of : (h : Header) (moment : ℕ) (w : World tcp_shape) (step : 
 built_change_of h moment w (Begin line thread call) = tt
 built_change_of h moment w (Finish line thread answer) = tt
 built_change_of h moment w (Effect thread answer) =
-    subst (λ p. BuiltChangeOf w.count p (Effect thread answer)) (sym (quiet_effect h w answer (turn_of thread w.threads)).built_change) tt
+    subst (λ p. BuiltChangeOf w.count p (Effect thread answer)) (sym (quiet_effect h w thread answer (turn_of thread w.threads)).built_change) tt
 built_change_of h moment w (At host (Does x)) = tt
 built_change_of h moment w (At host (Expires line x)) = tt
 built_change_of h moment w (At host (Makes m)) = (refl, host, refl)

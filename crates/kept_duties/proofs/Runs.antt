@@ -17,7 +17,7 @@ use Rattle.spec_network.specs.HostRules.{Permitted}
 use Rattle.spec_network.specs.HostSteps.{after, after_all, Lawful}
 use Rattle.spec_network.specs.Tables.{on}
 use Rattle.spec_tcp.specs.Machine.{tcp, tcp_shape}
-use Rattle.spec_duties.specs.Cases.{Known, Dutiful, first_known, known_after, known_after_all, watch_rules}
+use Rattle.spec_duties.specs.Cases.{Known, Dutiful, first_known, known_after, known_after_all, watch_rules, with_waits}
 use Rattle.spec_duties.specs.Observations.{observe, view_in}
 use Rattle.spec_duties.specs.Watching.{duty_rules, duties_after}
 use Rattle.checker.specs.Seen.{act_of, stamped}
@@ -39,8 +39,9 @@ pub record Goes (h : Header) (slack : ℕ) (k next : Known) (x : Stamped tcp_sha
   pub dutiful : first_broken (duty_rules h slack x.moment k.duties (observe h x.moment k.model x.step)) ≡ None
   pub model : next.model ≡ after (tcp h) x.moment k.model x.step
   pub duties : next.duties
-      ≡ duties_after (says_sender h.version) slack (view_in (after (tcp h) x.moment k.model x.step) (observe h x.moment k.model x.step).touched) x.moment
-      (observe h x.moment k.model x.step) k.duties
+      ≡ with_waits (says_sender h.version) x.moment (after (tcp h) x.moment k.model x.step) (observe h x.moment k.model x.step)
+      (duties_after (says_sender h.version) slack (view_in (after (tcp h) x.moment k.model x.step) (observe h x.moment k.model x.step).touched) x.moment
+      (observe h x.moment k.model x.step) k.duties)
 
 -- a step that does something in the model; another changes nothing
 abbrev pub Steps : Header → (slack : ℕ) → (k next : Known) → Option (Stamped tcp_shape) → Type 0
@@ -130,8 +131,9 @@ module _ (h : Header) (lines : List Line) where
     model = ap (λ (m : Known). m.model) is;
     duties =
         ap (λ (m : Known). m.duties) is
-        ∙ ap (λ o. on o k.duties (λ slack. duties_after (says_sender h.version) slack (view_in (after (tcp h) x.moment k.model x.step)
-        (observe h x.moment k.model x.step).touched) x.moment (observe h x.moment k.model x.step) k.duties)) given;
+        ∙ ap (λ o. on o k.duties (λ slack. with_waits (says_sender h.version) x.moment (after (tcp h) x.moment k.model x.step)
+        (observe h x.moment k.model x.step) (duties_after (says_sender h.version) slack (view_in (after (tcp h) x.moment k.model x.step)
+        (observe h x.moment k.model x.step).touched) x.moment (observe h x.moment k.model x.step) k.duties))) given;
   }
 
   model_after : (k : Known) (xs : List (Stamped tcp_shape)) → (known_after_all h k xs).model ≡ after_all (tcp h) k.model xs

@@ -38,7 +38,7 @@ use Rattle.spec_duties.specs.declared.views.View.{View}
 use Rattle.kept_duties.specs.Happens.{Happens, act_at, known_before, seen_before}
 use Rattle.checker.specs.Seen.{move_of, moves}
 use Rattle.kept_duties.specs.Soon.{BecomesBy, HappensBy, IsDoneUnless}
-use Rattle.kept_duties.proofs.Judged.{IsSame, unbrought}
+use Rattle.kept_duties.proofs.Judged.{IsSame, unbrought, without_last}
 use Rattle.kept_duties.proofs.Labels.{builder_is}
 use Rattle.kept_duties.proofs.Repeats.{goes_of, happens_from, happens_to, owes_of}
 use Rattle.kept_duties.proofs.Runs.{Goes, Run, run_keeps, world_is}
@@ -325,7 +325,7 @@ module _ (t : Trace) (w : Witness) (slack : ℕ) (r : Run t.header slack (length
             let k = known_before t w (length w.steps) in
             let e = still.there in
             let none = wait.rules _ (unbrought _ (lates_of_all t.header slack last k.duties k.model)
-            (none_all (end_rules t.header slack last k.duties k.model) late).1.1) in
+            (without_last _ _ (none_all (end_rules t.header slack last k.duties k.model) late).1.1)) in
             let here = sym (same last k.duties None me.host me.number (view_of e.0))
             ∙ sel_all sel wait.either t.header slack last k.duties k.model none me e.0 e.1 in
             let open' : Is (view_of e.0) ≡ false =

@@ -54,7 +54,7 @@ use Rattle.spec_duties.specs.Observations.{observe_accept, at_drop, at_place, at
 use Rattle.spec_duties.specs.Observations.{is_done, observe_other, processing_of, sending_of, observe, unseen, view_in}
 use Rattle.spec_duties.specs.Views.{unborn, view_of}
 use Rattle.spec_duties.specs.Watching.{Duties, brought_by, built_by, counts_now, duty_rules, judged_lates, listener_closed, owed_by, owed_table_after, sends_in_excess, sent_by}
-use Rattle.spec_duties.specs.Watching.{touched_rules}
+use Rattle.spec_duties.specs.Watching.{answer_rules, touched_rules}
 use Rattle.spec_duties.specs.declared.events.Event.{Event}
 use Rattle.spec_duties.specs.declared.events.Event.TheVariants as events
 use Rattle.spec_duties.specs.declared.owed.Lates.{Lates}
@@ -236,7 +236,7 @@ call_before h w thread host (calls.Abort n) answer turn aims =
 call_before h w thread host call answer turn aims = tt
 
 effect_before : (h : Header) (w : World tcp_shape) (thread : ℕ) (answer : Answer) (u : Turn tcp_shape) → turn_of thread w.threads ≡ u
-    → AsBefore w (Effect thread answer) (observe_effect h w answer u).touched
+    → AsBefore w (Effect thread answer) (observe_effect h w thread answer u).touched
 effect_before h w thread answer Idle turn = tt
 effect_before h w thread answer (Called call) turn =
     on_cases (λ (s : Observation). AsBefore w (Effect thread answer) s.touched) (aim_of (tcp h) w.hosts (aim call)) unseen
@@ -363,7 +363,7 @@ module _ (h : Header) (slack : ℕ) (k next : Known) (x : Stamped tcp_shape) (me
   owes_after event shows =
       let rules = (none_all (duty_rules h slack x.moment k.duties shown) goes.dutiful).1.1.1.1 in
       let here =
-      subst (λ (o : Option TouchedEndpoint). AllByRecursion (λ r. r.1 ≡ false) (on o [] (touched_rules h slack x.moment k.duties counts
+      subst (λ (o : Option TouchedEndpoint). AllByRecursion (λ r. r.1 ≡ false) (on o (answer_rules slack x.moment k.duties shown.call_change) (touched_rules h slack x.moment k.duties counts
       (sent_by k.duties shown.built_change) shown.sampling))) shows rules in
       record {
         counts = counts;

@@ -1,5 +1,5 @@
 -- The model of a case with its duties.
-use Rattle.std.specs.Prelude.{◌≡◌, ℕ, suc, Bool, List, [], ◌∷◌, ◌++◌, Option, None}
+use Rattle.std.specs.Prelude.{◌≡◌, ℕ, suc, Bool, if◌then◌else◌, List, [], ◌∷◌, ◌++◌, Option, None}
 use Rattle.std.specs.Option.{option_map_or}
 use Rattle.case_forms.specs.declared.trace.Header.{Header}
 use Rattle.case_forms.specs.Versions.{says_sender}
@@ -11,6 +11,7 @@ use Rattle.spec_network.specs.HostSteps as network
 use Rattle.spec_network.specs.Tables.{on}
 use Rattle.spec_tcp.specs.Forgetting as forgetting
 use Rattle.spec_tcp.specs.Machine.{tcp, tcp_shape}
+use Rattle.spec_duties.specs.Answering.{waits_after}
 use Rattle.spec_duties.specs.Observations.{Observation, observe, view_in}
 use Rattle.spec_duties.specs.Watching as watching
 use Rattle.spec_duties.specs.Watching.{Duties, duty_rules, duties_after}
@@ -37,10 +38,19 @@ start h = record { header = h; world = first_known h; steps = 0 }
 abbrev pub judged_rules : Header → (moment : ℕ) → Duties → Observation → List (Rule × Bool)
 judged_rules h moment d s = on h.slack [] (λ slack. duty_rules h slack moment d s)
 
+-- the same with what is kept of calls that wait, for the stricter duties
+abbrev pub with_waits : (strict : Bool) → (moment : ℕ) → (after : World tcp_shape) → Observation → Duties → Duties
+with_waits strict moment w s d =
+    record d {
+      waits = if strict then waits_after w moment s.touched s.call_change s.socket_change d.waits else d.waits;
+    }
+
 -- what is kept after a step: nothing new at `any`; which credit is taken depends on the slack
 abbrev pub noted_by : Header → (moment : ℕ) → (after : World tcp_shape) → Observation → Duties → Duties
 noted_by h moment w s d =
-    on h.slack d (λ slack. duties_after (says_sender h.version) slack (view_in w s.touched) moment s d)
+    on h.slack d
+    (λ slack. with_waits (says_sender h.version) moment w s
+    (duties_after (says_sender h.version) slack (view_in w s.touched) moment s d))
 
 -- the rules of duties at a step
 abbrev pub watch_rules : Header → (moment : ℕ) → Known → Step tcp_shape → List (Rule × Bool)

@@ -1,7 +1,7 @@
 -- The comparison after the last step: which duties are late then.
 use Rattle.std.specs.Prelude.{ℕ, suc, Bool, false, not, ◌&&◌, ◌||◌, if◌then◌else◌, List, [], ◌∷◌, Option, None, Some}
 use Rattle.std.specs.Prelude.{is_some}
-use Rattle.std.specs.Prelude.{unwrap_or}
+use Rattle.std.specs.Prelude.{unwrap_or, ◌++◌}
 use Rattle.std.specs.Option.{option_map, option_map_or}
 use Rattle.case_forms.specs.declared.calls.Host.{Host}
 use Rattle.case_forms.specs.declared.calls.Host.TheVariants.{Zero, One}
@@ -15,6 +15,7 @@ use Rattle.spec_tcp.specs.declared.endpoint.Endpoint.{Endpoint}
 use Rattle.spec_tcp.specs.Machine.{tcp_shape}
 use Rattle.spec_duties.specs.Views.{view_of}
 use Rattle.spec_duties.specs.Acknowledge.{acknowledge_due}
+use Rattle.spec_duties.specs.Answering.{any_call, is_unanswered_late}
 use Rattle.spec_duties.specs.Deadlines.{is_late}
 use Rattle.spec_duties.specs.Owed.{Lates, none_late, late_rules}
 use Rattle.spec_duties.specs.Strict.{Unsent, with_brought}
@@ -74,6 +75,7 @@ end_rules h slack moment d w =
     (rules.ProcessLate, is_some (first_waiting slack moment d.inbox))
     ∷ (rules.SendLate, any_unsent (is_send_late slack moment) d.unsent)
     ∷ late_rules (with_brought (any_unsent (is_brought_late slack moment) d.unsent) (lates_of_all h slack moment d w))
+    ++ (rules.AnswerLate, any_call (is_unanswered_late h slack moment w d.waits) d.waits.threads) ∷ []
 
 -- the line of a rule that is broken at the end: that of a segment that waits, else 0
 abbrev pub line_of : Option ℕ → Rule → ℕ

@@ -14,6 +14,7 @@ pub mod Owed
 pub mod Sampling
 pub mod Strict
 pub mod Dropped
+pub mod Answering
 pub mod Observations
 pub mod Watching
 pub mod End

@@ -33,6 +33,9 @@ use Rattle.spec_duties.specs.Dropped.{taking_breaks, answering_breaks, droppable
 use Rattle.spec_duties.specs.Dropped.{asks, earns_by_dropping, earns_by_taking}
 use Rattle.spec_duties.specs.Dropped.{discards_at, is_old, reads_old_numbers}
 use Rattle.spec_duties.specs.Sampling.{sampling_at}
+use Rattle.spec_duties.specs.Answering.{CallChange, answering, beginning, judged_call, judged_socket, socket_changing}
+use Rattle.spec_duties.specs.declared.answering.CallChange.TheVariants as call_change
+use Rattle.spec_duties.specs.declared.answering.SocketChange.TheVariants as socket_change
 use Rattle.spec_duties.specs.declared.observations.Sampling.TheVariants as sampling
 pub use Rattle.spec_duties.specs.declared.observations.InboxChange.{InboxChange}
 use Rattle.spec_duties.specs.declared.observations.InboxChange.TheVariants as inbox_change
@@ -54,6 +57,8 @@ unseen = record {
   discards = false;
   sampling = sampling.Nothing;
   earns = false;
+  call_change = call_change.Nothing;
+  socket_change = socket_change.Nothing;
 }
 
 abbrev pub touching : Option TouchedEndpoint → Observation
@@ -193,17 +198,29 @@ abbrev pub observe_pending : Header → World tcp_shape → Answer → Call → 
 observe_pending h w answer call =
     on (aim_of (tcp h) w.hosts (aim call)) unseen (λ host. observe_call host (pick w.hosts host).body call answer)
 
+-- with what is judged of answers
+abbrev pub observe_open : Header → World tcp_shape → (thread : ℕ) → Answer → Call → Observation
+observe_open h w thread answer call =
+    record (observe_pending h w answer call) {
+      call_change = judged_call h (answering h w thread answer call);
+      socket_change = judged_socket h (socket_changing h w answer call);
+    }
+
 -- the effect of a thread's call: it is open, and had none yet
-abbrev pub observe_effect : Header → World tcp_shape → Answer → Turn tcp_shape → Observation
-observe_effect h w answer Idle = unseen
-observe_effect h w answer (Called call) = observe_pending h w answer call
-observe_effect h w answer (Answered given) = unseen
+abbrev pub observe_effect : Header → World tcp_shape → (thread : ℕ) → Answer → Turn tcp_shape → Observation
+observe_effect h w thread answer Idle = unseen
+observe_effect h w thread answer (Called call) = observe_open h w thread answer call
+observe_effect h w thread answer (Answered given) = unseen
+
+-- a call begins or ends
+abbrev pub observe_turn : Header → CallChange → Observation
+observe_turn h change = record unseen { call_change = judged_call h change }
 
 -- of a step
 abbrev pub observe : Header → (moment : ℕ) → World tcp_shape → Step tcp_shape → Observation
-observe h moment w (network.Begin line thread call) = unseen
-observe h moment w (network.Finish line thread answer) = unseen
-observe h moment w (network.Effect thread answer) = observe_effect h w answer (turn_of thread w.threads)
+observe h moment w (network.Begin line thread call) = observe_turn h (beginning thread call)
+observe h moment w (network.Finish line thread answer) = observe_turn h (call_change.Ends thread)
+observe h moment w (network.Effect thread answer) = observe_effect h w thread answer (turn_of thread w.threads)
 observe h moment w (network.At host d) = observe_host_step h moment w (suc w.count) host (pick w.hosts host) d
 
 -- the endpoint that a step touched, as it is in this world

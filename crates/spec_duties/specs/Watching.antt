@@ -26,6 +26,7 @@ use Rattle.spec_duties.specs.Sampling.{Sampling, is_sample_due}
 use Rattle.spec_duties.specs.Strict.{StrictOwed, Unsent, is_spared, nothing_strict, strict_after, strict_lates}
 use Rattle.spec_duties.specs.Strict.{taken_over, with_brought}
 use Rattle.spec_duties.specs.Dropped.{Droppable, Dropping}
+use Rattle.spec_duties.specs.Answering.{CallChange, Waits, is_answer_late, none_wait}
 use Rattle.spec_duties.specs.Observations.{InboxChange, BuiltChange, Queueing, Observation, TouchedEndpoint}
 use Rattle.spec_duties.specs.declared.observations.InboxChange.TheVariants as inbox_change
 use Rattle.spec_duties.specs.declared.observations.BuiltChange.TheVariants as built_change
@@ -36,8 +37,8 @@ pub use Rattle.spec_duties.specs.declared.tables.Built.{Built}
 
 -- what each endpoint owes, by its place; each listener, by its place; since when each segment in an inbox waits, by its
 -- line; and the segments that were built, by their numbers. What left an inbox or was sent leaves None in its place.
--- For the stricter duties of version 6, the same of endpoints and of segments that were built, and the credits of each
--- host's endpoints
+-- For the stricter duties of version 6, the same of endpoints and of segments that were built, the credits of each host's
+-- endpoints, and the calls that wait
 pub record Duties : Type 0 where
   pub owed : Both (List (ℕ × Owed))
   pub listening : Both (List (ℕ × Listening))
@@ -46,6 +47,7 @@ pub record Duties : Type 0 where
   pub strict : Both (List (ℕ × StrictOwed))
   pub unsent : List (ℕ × Option Unsent)
   pub credits : Both (List ℕ)
+  pub waits : Waits
 
 abbrev pub start : Duties
 start = record {
@@ -56,6 +58,7 @@ start = record {
   strict = record { zero = []; one = [] };
   unsent = [];
   credits = record { zero = []; one = [] };
+  waits = none_wait;
 }
 
 -- what an endpoint owes
@@ -154,13 +157,17 @@ touched_rules h slack moment d counts sent s t =
     ++ limit_rules h t counts (sends_in_excess h slack d sent t)
     (is_sample_due s (strict_by d t.host t.place).timed) (owed_by d t.host t.place)
 
--- all rules of duties at a step
+-- the rule of a step at a call of which nothing is owed but its answer
+abbrev pub answer_rules : (slack moment : ℕ) → Duties → CallChange → List (Rule × Bool)
+answer_rules slack moment d change = (rules.AnswerLate, is_answer_late slack moment d.waits change) ∷ []
+
+-- all rules of duties at a step; one that begins, answers or ends a call that waits touches no endpoint
 abbrev pub duty_rules : Header → (slack moment : ℕ) → Duties → Observation → List (Rule × Bool)
 duty_rules h slack moment d s =
     (rules.Dropped, drops_needed d s.dropping) ∷ (rules.Discarded, s.discards)
     ∷ (rules.ProcessLate, leaves_late slack moment d s.inbox_change)
     ∷ (rules.SendLate, sent_late slack moment (built_by d s.built_change))
-    ∷ on s.touched []
+    ∷ on s.touched (answer_rules slack moment d s.call_change)
     (touched_rules h slack moment d (counts_now (built_by d s.built_change)) (sent_by d s.built_change) s.sampling)
 
 -- what is owed after a step at an endpoint, which is then seen like this
@@ -273,7 +280,8 @@ credits_after slack moment d sent earns t =
     with_host d.credits t.host
     (credits_earned earns moment t.place (credits_spent slack t.place sent (pick d.credits t.host)))
 
--- what is kept after a step, if its endpoint is then seen like this; `strict`: for the stricter duties, too
+-- what is kept after a step, if its endpoint is then seen like this; `strict`: for the stricter duties, too. Calls that
+-- wait are left as they are
 abbrev pub duties_after : (strict : Bool) → (slack : ℕ) → (after : View) → (moment : ℕ) → Observation → Duties → Duties
 duties_after strict slack after moment s d = record {
   owed = on s.touched d.owed (owed_table_after after moment (counts_now (built_by d s.built_change)) d);
@@ -287,4 +295,5 @@ duties_after strict slack after moment s d = record {
   credits =
       if strict then on s.touched d.credits (credits_after slack moment d (sent_by d s.built_change) s.earns)
       else d.credits;
+  waits = d.waits;
 }

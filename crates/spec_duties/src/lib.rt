@@ -8,7 +8,7 @@
 //!
 //! - `views`: what duties read of an endpoint; `events`: what a step does at one
 //! - `owed`: what an endpoint owes; `tables`: what is kept for listeners and built segments
-//! - `strict`: what is kept for the stricter duties of version 6
+//! - `strict`: what is kept for the stricter duties of version 6; `answering`: what is kept of calls that wait
 //! - `observations`: all that duties read of the world at a step
 //!
 //! The definitions:
@@ -19,12 +19,13 @@
 //! - `specs/Resent`, `specs/Excess`: how often positions and acknowledgments are sent at most
 //! - `specs/Dropped`: which segments may be dropped, and which of them ask for an acknowledgment
 //! - `specs/Strict`: the duties that are stricter in version 6, or have later deadlines; `specs/Sampling`: when round
-//!   trips are measured at least
+//!   trips are measured at least; `specs/Answering`: by when a call that waits is answered
 //! - `specs/Owed`: all that an endpoint owes; `specs/Observations`: what a step shows of the world
 //! - `specs/Watching`: the rules of a step, and what is kept after it; `specs/End`: the comparison after the last step
 //! - `specs/Cases`: the model and its duties together; `specs/Slack`: what a greater slack accepts
 #![tactic(auto)]
 
+mod answering;
 mod events;
 mod observations;
 mod owed;
@@ -32,6 +33,9 @@ mod strict;
 mod tables;
 mod views;
 
+pub use answering::{
+    Awaited, CallChange, OpenCall, Ready, SocketChange, Waitable, Waiting,
+};
 pub use events::{Event, Sending};
 pub use observations::{
     BuiltChange, Droppable, Dropping, InboxChange, Observation, Queueing, Sampling, TouchedEndpoint,

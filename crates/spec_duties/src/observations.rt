@@ -1,5 +1,6 @@
 //! All that duties read of the world at a step.
 
+use crate::answering::{CallChange, SocketChange};
 use crate::events::Event;
 use crate::views::View;
 use case_forms::Host;
@@ -93,4 +94,7 @@ pub struct Observation {
     pub sampling: Sampling,
     /// Whether the endpoint earns a credit by it, with which it may send an acknowledgment.
     pub earns: bool,
+    /// What it does to the call of a thread, and to a socket. Versions 1 to 5 don't ask.
+    pub call_change: CallChange,
+    pub socket_change: SocketChange,
 }

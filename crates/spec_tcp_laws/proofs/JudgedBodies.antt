@@ -107,7 +107,7 @@ endpoint_allows_by p (calls.Close n) answers.Done e = refl
 endpoint_allows_by p (calls.Abort n) answers.Done e = refl
 endpoint_allows_by p _ _ e = refl
 
-target_allows_by : (p : Profile) (b : HostTcp) (call : Call) (answer : Answer) (target : SocketTarget)
+pub target_allows_by : (p : Profile) (b : HostTcp) (call : Call) (answer : Answer) (target : SocketTarget)
     → target_allows (body_by p b) call answer target ≡ target_allows b call answer target
 target_allows_by p b call answer (ListenerAt l) = refl
 target_allows_by p b call answer (EndpointAt i) =

@@ -30,8 +30,9 @@ use Rattle.spec_tcp_laws.specs.Ascending.{rule_number, ascend}
 use Rattle.spec_tcp_laws.proofs.Rules.{both_true, at_most_to}
 use Rattle.spec_tcp_laws.proofs.Ascending.{rules_ascend}
 use Rattle.std.proofs.lemmas.Bool.Decides.{nat_tests}
+use Rattle.spec_duties.specs.declared.answering.CallChange.{CallChange}
 use Rattle.spec_duties.specs.Observations.{observe}
-use Rattle.spec_duties.specs.Watching.{built_by, counts_now, duty_rules, sent_by, touched_rules}
+use Rattle.spec_duties.specs.Watching.{answer_rules, built_by, counts_now, duty_rules, sent_by, touched_rules}
 use Rattle.spec_duties.specs.Cases.{Known, case_rules, watch_rules}
 use Rattle.spec_duties.specs.declared.observations.Sampling.{Sampling}
 use Rattle.spec_duties.specs.declared.observations.Observation.{Observation}
@@ -131,14 +132,14 @@ rules_top h moment w (At host d) = tops_host_step h host moment (pick w.hosts (o
 pub watch_ascend : (h : Header) (moment : ℕ) (k : Known) (step : Step tcp_shape) → ascend 40 (watch_rules h moment k step) ≡ true
 watch_ascend h moment k step = by h.slack (observe h moment k.model step)
   where
-    touched : (slack : ℕ) (counts : Bool) (sent : Option Unsent) (s : Sampling) (o : Option TouchedEndpoint)
-        → ascend 43 (on o [] (touched_rules h slack moment k.duties counts sent s)) ≡ true
-    touched slack counts sent s None = refl
-    touched slack counts sent s (Some t) = refl
+    touched : (slack : ℕ) (counts : Bool) (sent : Option Unsent) (s : Sampling) (change : CallChange) (o : Option TouchedEndpoint)
+        → ascend 43 (on o (answer_rules slack moment k.duties change) (touched_rules h slack moment k.duties counts sent s)) ≡ true
+    touched slack counts sent s change None = refl
+    touched slack counts sent s change (Some t) = refl
 
     by : (o : Option ℕ) (s : Observation) → ascend 40 (on o [] (λ slack. duty_rules h slack moment k.duties s)) ≡ true
     by None s = refl
-    by (Some slack) s = touched slack (counts_now (built_by k.duties s.built_change)) (sent_by k.duties s.built_change) s.sampling s.touched
+    by (Some slack) s = touched slack (counts_now (built_by k.duties s.built_change)) (sent_by k.duties s.built_change) s.sampling s.call_change s.touched
 
 pub all_ascend : (h : Header) (moment : ℕ) (k : Known) (step : Step tcp_shape) → ascend 6 (case_rules h moment k step) ≡ true
 all_ascend h moment k step =

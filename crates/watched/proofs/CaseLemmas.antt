@@ -1,7 +1,7 @@
 -- A step of a case: the rules of the model and of duties, and the case after it.
 use Rattle.std.proofs.Common.{◌≡◌, ℕ, suc, Bool, true, false, List, [], ◌++◌, Option, None, Some, Result, Ok, Err, refl, sym, ap, subst, ◌∙◌, append-nil, inl}
 use Rattle.std.proofs.Common.{inr}
-use Rattle.std.specs.Prelude.{OnOk, IfErr}
+use Rattle.std.specs.Prelude.{OnOk, IfErr, IsTrue, if◌then◌else◌, not}
 use Rattle.std.specs.Option.{option_map, option_map_or}
 use Rattle.case_forms.specs.Versions.{says_sender}
 use Rattle.case_forms.specs.TakenLines.{event_taken}
@@ -30,17 +30,30 @@ use Rattle.endpoint_state.specs.declared.fault.StepFault.TheVariants.{Broken, Ou
 use Rattle.spec_step.specs.Asked as plain
 use Rattle.spec_step.specs.Asked.{step_taking}
 use Rattle.spec_step.specs.Faults.{IfBroken}
-use Rattle.spec_duties.specs.Observations.{observe, unseen, view_in}
+use Rattle.spec_duties.specs.Answering.{Waits, beginning, waits_after}
+use Rattle.spec_duties.specs.declared.answering.CallChange.{CallChange}
+use Rattle.spec_duties.specs.Observations.{observe, observe_turn, unseen, view_in}
 use Rattle.spec_duties.specs.Watching.{Duties, duty_rules, duties_after}
-use Rattle.spec_duties.specs.Cases.{Known, Watched, after, asked_after, asked_rules, forget, case_rules, judged_rules, known_after, noted_by, watch_rules}
+use Rattle.spec_duties.specs.Cases.{Known, Watched, after, asked_after, asked_rules, forget, case_rules, judged_rules, known_after, noted_by, watch_rules, with_waits}
+use Rattle.spec_duties.specs.declared.answering.CallChange.TheVariants as call_change
 use Rattle.spec_duties.specs.declared.observations.Observation.{Observation}
+use Rattle.spec_duties.specs.declared.views.View.{View}
 use Rattle.watched.specs.Watched.{IsPlain, case_of, noted}
 use Rattle.watched.proofs.ForgetLemmas.{observe-forget, view_in-forget}
+use Rattle.watched.proofs.WaitLemmas.{same_forget, waits_same}
 
 -- what may be discarded isn't noted
 pub noted-forget : (h : Header) (moment : ℕ) (w : World tcp_shape) (s : Observation) (d : Duties)
     → noted_by h moment (forgetting.forget w) s d ≡ noted_by h moment w s d
-noted-forget h moment w s d = ap (λ v. on h.slack d (λ slack. duties_after (says_sender h.version) slack v moment s d)) (view_in-forget w s.touched)
+noted-forget h moment w s d =
+    ap (λ v. on h.slack d (λ slack. with slack v (waits_after (forgetting.forget w) moment s.touched s.call_change s.socket_change d.waits)))
+    (view_in-forget w s.touched)
+    ∙ ap (λ (x : Waits). on h.slack d (λ slack. with slack (view_in w s.touched) x))
+    (waits_same (forgetting.forget w) w (same_forget w) moment s.touched s.call_change s.socket_change d.waits)
+  where
+    with : (slack : ℕ) → View → Waits → Duties
+    with slack v x =
+        record (duties_after (says_sender h.version) slack v moment s d) { waits = if says_sender h.version then x else d.waits }
 
 -- what the code notes is what is kept
 kept_is : (h : Header) (w : World tcp_shape) (d : Duties) (steps moment : ℕ) (step : Step tcp_shape)
@@ -128,7 +141,7 @@ unseen_admits (Ok x) p d moment step sees e =
 unseen_admits (Err fault) p d moment step sees e = tt
 
 nothing_noted : (o : Option ℕ) (strict : Bool) (moment : ℕ) (w : World tcp_shape) (d : Duties)
-    → on o d (λ slack. duties_after strict slack (view_in w unseen.touched) moment unseen d) ≡ d
+    → on o d (λ slack. with_waits strict moment w unseen (duties_after strict slack (view_in w unseen.touched) moment unseen d)) ≡ d
 nothing_noted None strict moment w d = refl
 nothing_noted (Some slack) true moment w d = refl
 nothing_noted (Some slack) false moment w d = refl
@@ -235,8 +248,9 @@ plain_is (Err e) p u d moment asked any is = tt
 plain_is (Ok x) p u d moment None any is = ap (λ (u : Progress). case_of u d) is
 plain_is (Ok x) p u d moment (Some step) any is =
     ap (λ (u : Progress). case_of u d) is
-    ∙ ap wrap (sym (ap (λ o. on o d (λ slack. duties_after (says_sender p.header.version) slack (view_in now (observe p.header moment p.world step).touched) moment
-    (observe p.header moment p.world step) d)) any))
+    ∙ ap wrap (sym (ap (λ o. on o d (λ slack. with_waits (says_sender p.header.version) moment now (observe p.header moment p.world step)
+    (duties_after (says_sender p.header.version) slack (view_in now (observe p.header moment p.world step).touched) moment
+    (observe p.header moment p.world step) d))) any))
   where
     now : World tcp_shape
     now = network.after (tcp p.header) moment p.world step
@@ -268,21 +282,30 @@ plain_line_is (Ok x) p u d moment None (inr sees) is = ap (λ (u : Progress). ca
 plain_line_is (Err e) p u d moment None (inr sees) is = tt
 plain_line_is r p u d moment (Some step) (inr sees) is = unseen_is r p u d moment step (sees moment p.world) is
 
--- the beginning of a call shows nothing, nor does its end
-pub begin_is_plain : (h : Header) (extras : Extras) (line : Line) (call : Call) → line.event ≡ CallBegin call → IsPlain h (step_taking extras line)
-begin_is_plain h extras line call is =
+-- the beginning of a call shows nothing in versions 1 to 5, nor does its end
+turn_unseen : (h : Header) (change : CallChange) → IsTrue (not (says_sender h.version)) → observe_turn h change ≡ unseen
+turn_unseen h change plain = by (says_sender h.version) plain
+  where
+    by : (b : Bool) → IsTrue (not b) → (let x : Observation = record unseen { call_change = if b then change else call_change.Nothing } in x) ≡ unseen
+    by true plain = absurd cc
+    by false plain = refl
+
+pub begin_is_plain : (h : Header) (extras : Extras) (line : Line) (call : Call) → line.event ≡ CallBegin call → IsTrue (not (says_sender h.version))
+    → IsPlain h (step_taking extras line)
+begin_is_plain h extras line call is plain =
     subst (λ (event : Event). IsPlain h (option_map line_step (event_taken line.number line.thread event extras))) (sym is) (by extras)
   where
     by : (extras : Extras) → IsPlain h (option_map line_step (event_taken line.number line.thread (CallBegin call) extras))
-    by Bare = inr (λ moment w. refl)
+    by Bare = inr (λ moment w. turn_unseen h (beginning line.thread call) plain)
     by (One n) = inr (λ moment w. refl)
     by (Two m n) = inr (λ moment w. refl)
 
-pub end_is_plain : (h : Header) (extras : Extras) (line : Line) (answer : Answer) → line.event ≡ CallEnd answer → IsPlain h (step_taking extras line)
-end_is_plain h extras line answer is =
+pub end_is_plain : (h : Header) (extras : Extras) (line : Line) (answer : Answer) → line.event ≡ CallEnd answer → IsTrue (not (says_sender h.version))
+    → IsPlain h (step_taking extras line)
+end_is_plain h extras line answer is plain =
     subst (λ (event : Event). IsPlain h (option_map line_step (event_taken line.number line.thread event extras))) (sym is) (by extras)
   where
     by : (extras : Extras) → IsPlain h (option_map line_step (event_taken line.number line.thread (CallEnd answer) extras))
-    by Bare = inr (λ moment w. refl)
+    by Bare = inr (λ moment w. turn_unseen h (call_change.Ends line.thread) plain)
     by (One n) = inr (λ moment w. refl)
     by (Two m n) = inr (λ moment w. refl)

@@ -1,5 +1,5 @@
 -- Duties read nothing that may be discarded.
-use Rattle.std.proofs.Common.{◌≡◌, ℕ, suc, Bool, List, [], ◌∷◌, Option, None, Some, map, refl, ap, ◌∙◌, arith}
+use Rattle.std.proofs.Common.{◌≡◌, ℕ, suc, Bool, List, [], ◌∷◌, ◌++◌, Option, None, Some, map, refl, ap, ◌∙◌, arith}
 use Rattle.std.specs.Prelude.{if◌then◌else◌, false, is_some, slice_get, nat_eq}
 use Rattle.std.specs.Map.{lookup}
 use Rattle.std.specs.Option.{option_map, option_map_or}
@@ -36,6 +36,7 @@ use Rattle.spec_tcp_laws.proofs.ForgetBodies.{place-forget}
 use Rattle.spec_tcp_laws.proofs.ForgetActs.{forget_taker, taker-forget, read-forget}
 use Rattle.spec_tcp_laws.proofs.ForgetRules.{sample-forget}
 use Rattle.spec_tcp_laws.proofs.ForgetWorlds.{step_rules-forget}
+use Rattle.spec_duties.specs.Answering.{any_call, is_unanswered_late}
 use Rattle.spec_duties.specs.Views.{view_of, unborn}
 use Rattle.spec_duties.specs.Cases as cases
 use Rattle.spec_duties.specs.Cases.{Known, late_at_end}
@@ -56,6 +57,7 @@ use Rattle.spec_duties.specs.declared.observations.Queueing.{Queueing}
 use Rattle.spec_duties.specs.declared.observations.Queueing.TheVariants as queueing
 use Rattle.spec_duties.specs.declared.observations.Observation.{Observation}
 use Rattle.spec_duties.specs.declared.observations.TouchedEndpoint.{TouchedEndpoint}
+use Rattle.watched.proofs.WaitLemmas.{any_same, open_same, same_forget}
 
 pub view-forget : (e : Endpoint) → view_of (forget_endpoint e) ≡ view_of e
 view-forget e = rw (snd_max-forget e, end_of-forget e, rcv_nxt-forget e) refl
@@ -273,15 +275,17 @@ pending-seen h w answer call = rw (aim-forget h w (aim call)) (by (aim_of (tcp h
     by (Some Zero) = call-seen Zero w.hosts.zero.body call answer
     by (Some One) = call-seen One w.hosts.one.body call answer
 
-effect-seen : (h : Header) (w : World tcp_shape) (answer : Answer) (u : Turn tcp_shape) → observe_effect h (forget w) answer u ≡ observe_effect h w answer u
-effect-seen h w answer Idle = refl
-effect-seen h w answer (Called call) = pending-seen h w answer call
-effect-seen h w answer (Answered given) = refl
+effect-seen : (h : Header) (w : World tcp_shape) (thread : ℕ) (answer : Answer) (u : Turn tcp_shape)
+    → observe_effect h (forget w) thread answer u ≡ observe_effect h w thread answer u
+effect-seen h w thread answer Idle = refl
+effect-seen h w thread answer (Called call) =
+    open_same (forget w) w (same_forget w) h h (aim-forget h w) thread answer call refl (pending-seen h w answer call)
+effect-seen h w thread answer (Answered given) = refl
 
 pub observe-forget : (h : Header) (moment : ℕ) (w : World tcp_shape) (step : Step tcp_shape) → observe h moment (forget w) step ≡ observe h moment w step
 observe-forget h moment w (network.Begin line t call) = refl
 observe-forget h moment w (network.Finish line t answer) = refl
-observe-forget h moment w (network.Effect t answer) = effect-seen h w answer (turn_of t w.threads)
+observe-forget h moment w (network.Effect t answer) = effect-seen h w t answer (turn_of t w.threads)
 observe-forget h moment w (network.At Zero d) = host_step-seen h moment w (suc w.count) Zero w.hosts.zero d
 observe-forget h moment w (network.At One d) = host_step-seen h moment w (suc w.count) One w.hosts.one d
 
@@ -320,15 +324,21 @@ end-forget h slack moment d w =
 pub late-forget : (h : Header) (moment : ℕ) (k : Known) → late_at_end h moment (cases.forget k) ≡ late_at_end h moment k
 late-forget h moment k = by h.slack
   where
-    with : ℕ → Lates → Option (ℕ × Rule)
-    with slack l =
+    with : ℕ → Lates → Bool → Option (ℕ × Rule)
+    with slack l late =
         option_map (λ rule. (line_of (first_waiting slack moment k.duties.inbox) rule, rule))
         (first_broken ((rules.ProcessLate, is_some (first_waiting slack moment k.duties.inbox))
         ∷ (rules.SendLate, any_unsent (is_send_late slack moment) k.duties.unsent)
-        ∷ late_rules (with_brought (any_unsent (is_brought_late slack moment) k.duties.unsent) l)))
+        ∷ late_rules (with_brought (any_unsent (is_brought_late slack moment) k.duties.unsent) l) ++ (rules.AnswerLate, late) ∷ []))
+
+    late : ℕ → World tcp_shape → Bool
+    late slack w = any_call (is_unanswered_late h slack moment w k.duties.waits) k.duties.waits.threads
 
     by : (o : Option ℕ)
-        → on o None (λ slack. with slack (lates_of_all h slack moment k.duties (forget k.model)))
-        ≡ on o None (λ slack. with slack (lates_of_all h slack moment k.duties k.model))
+        → on o None (λ slack. with slack (lates_of_all h slack moment k.duties (forget k.model)) (late slack (forget k.model)))
+        ≡ on o None (λ slack. with slack (lates_of_all h slack moment k.duties k.model) (late slack k.model))
     by None = refl
-    by (Some slack) = ap (with slack) (end-forget h slack moment k.duties k.model)
+    by (Some slack) =
+        ap (λ (l : Lates). with slack l (late slack (forget k.model))) (end-forget h slack moment k.duties k.model)
+        ∙ ap (with slack (lates_of_all h slack moment k.duties k.model))
+        (any_same (forget k.model) k.model (same_forget k.model) h h (aim-forget h k.model) slack moment k.duties.waits k.duties.waits.threads)

@@ -51,7 +51,9 @@ use Rattle.spec_duties.specs.Dropped.{answering_breaks, bare, discards_at, dropp
 use Rattle.spec_duties.specs.Sampling.{sampling_at}
 use Rattle.spec_duties.specs.Observations.{observe_accept, accepting, at_drop, at_next, at_place, at_ports, at_sender, at_target, observe_call, observe_close}
 use Rattle.spec_duties.specs.Observations.{observe_host_step, observe_dropping, observe_effect, is_done, on_target, observe_opened, observe_other}
-use Rattle.spec_duties.specs.Observations.{observe_pending, processing_of}
+use Rattle.spec_duties.specs.Answering.{answering, beginning, judged_call, judged_socket, socket_changing}
+use Rattle.spec_duties.specs.declared.answering.CallChange.TheVariants.{Ends}
+use Rattle.spec_duties.specs.Observations.{observe_open, observe_pending, observe_turn, processing_of}
 use Rattle.spec_duties.specs.Observations.{sending_of, observe, observe_taking, unseen, view_in}
 use Rattle.spec_duties.specs.Views.{unborn, view_of}
 use Rattle.spec_duties.specs.declared.events.Event.{Event}
@@ -60,7 +62,8 @@ use Rattle.spec_duties.specs.declared.observations.Queueing.{Queueing}
 use Rattle.spec_duties.specs.declared.observations.Queueing.TheVariants as queueing
 use Rattle.spec_duties.specs.declared.observations.Observation.{Observation}
 use Rattle.spec_duties.specs.declared.observations.TouchedEndpoint.{TouchedEndpoint}
-use Rattle.watched.specs.Levels.{EndsBelow, LessJudgedShowsTheSame, ShowsHigher, touched_with, view_with}
+use Rattle.watched.specs.Levels.{EndsBelow, LessJudgedShowsTheSame, ShowsHigher, observed_with, touched_with, view_with}
+use Rattle.watched.proofs.WaitLemmas.{opened_same, same_by}
 
 -- one touched endpoint is another but for its congestion edge, which isn't lower
 abbrev Higher : Option TouchedEndpoint → Option TouchedEndpoint → Type 0
@@ -360,19 +363,39 @@ pending_seen p j h w answer call may = rw (aim_same p j h w.hosts (aim call)) (b
     by (Some Zero) = call_seen p Zero w.hosts.zero.body call answer (may Zero)
     by (Some One) = call_seen p One w.hosts.one.body call answer (may One)
 
-effect_seen : (p : Profile) (j : Judged) (h : Header) (w : World tcp_shape) (answer : Answer) (u : Turn tcp_shape)
+open_seen : (p : Profile) (j : Judged) (h : Header) (w : World tcp_shape) (thread : ℕ) (answer : Answer) (call : Call)
     → ((host : Host) → MayJudgeAll p (pick w.hosts host).body)
-    → ShowsHigher (observe_effect h w answer u) (observe_effect (header_by j h) (world_by p w) answer u)
-effect_seen p j h w answer Idle may = shows_same unseen refl
-effect_seen p j h w answer (Called call) may = pending_seen p j h w answer call may
-effect_seen p j h w answer (Answered given) may = shows_same unseen refl
+    → ShowsHigher (observe_open h w thread answer call) (observe_open (header_by j h) (world_by p w) thread answer call)
+open_seen p j h w thread answer call may =
+    let seen = pending_seen p j h w answer call may in
+    (
+      seen.0,
+      ap (λ (s : Observation). with s) seen.1
+          ∙ opened_same (world_by p w) w (same_by p w) (header_by j h) h (aim_same p j h w.hosts)
+          (observed_with seen.0 (observe_pending h w answer call)) thread answer call refl,
+      seen.2,
+    )
+  where
+    with : Observation → Observation
+    with s =
+        record s {
+          call_change = judged_call (header_by j h) (answering (header_by j h) (world_by p w) thread answer call);
+          socket_change = judged_socket (header_by j h) (socket_changing (header_by j h) (world_by p w) answer call);
+        }
+
+effect_seen : (p : Profile) (j : Judged) (h : Header) (w : World tcp_shape) (thread : ℕ) (answer : Answer) (u : Turn tcp_shape)
+    → ((host : Host) → MayJudgeAll p (pick w.hosts host).body)
+    → ShowsHigher (observe_effect h w thread answer u) (observe_effect (header_by j h) (world_by p w) thread answer u)
+effect_seen p j h w thread answer Idle may = shows_same unseen refl
+effect_seen p j h w thread answer (Called call) may = open_seen p j h w thread answer call may
+effect_seen p j h w thread answer (Answered given) may = shows_same unseen refl
 
 observed_seen : (p : Profile) (j : Judged) (h : Header) (moment : ℕ) (w : World tcp_shape) (step : Step tcp_shape)
     → ((host : Host) → MayJudgeAll p (pick w.hosts host).body)
     → ShowsHigher (observe h moment w step) (observe (header_by j h) moment (world_by p w) step)
-observed_seen p j h moment w (network.Begin line t call) may = shows_same unseen refl
-observed_seen p j h moment w (network.Finish line t answer) may = shows_same unseen refl
-observed_seen p j h moment w (network.Effect t answer) may = effect_seen p j h w answer (turn_of t w.threads) may
+observed_seen p j h moment w (network.Begin line t call) may = shows_same (observe_turn h (beginning t call)) refl
+observed_seen p j h moment w (network.Finish line t answer) may = shows_same (observe_turn h (Ends t)) refl
+observed_seen p j h moment w (network.Effect t answer) may = effect_seen p j h w t answer (turn_of t w.threads) may
 observed_seen p j h moment w (network.At Zero d) may = host_step_seen p j h moment w (suc w.count) Zero w.hosts.zero d (may Zero)
 observed_seen p j h moment w (network.At One d) may = host_step_seen p j h moment w (suc w.count) One w.hosts.one d (may One)
 

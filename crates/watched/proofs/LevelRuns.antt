@@ -24,9 +24,11 @@ use Rattle.spec_tcp.specs.declared.endpoint.Endpoint.{Endpoint}
 use Rattle.spec_tcp_laws.specs.Judging.{IsJudged, endpoint_by, extent, header_by, world_by, world_judged}
 use Rattle.spec_tcp_laws.specs.Levels.{is_of_level, other_rules}
 use Rattle.spec_tcp_laws.proofs.JudgedRuns.{judged_step}
-use Rattle.spec_tcp_laws.proofs.JudgedWorlds.{after_kept}
+use Rattle.spec_tcp_laws.proofs.JudgedWorlds.{after_kept, aim_same}
 use Rattle.spec_tcp_laws.proofs.LevelLemmas.{step_alike}
 use Rattle.duties.proofs.SlackLemmas.{AreFewer, fewer_none}
+use Rattle.spec_duties.specs.Answering.{Waits, any_call, is_unanswered_late, waits_after}
+use Rattle.spec_duties.specs.declared.answering.CallChange.{CallChange}
 use Rattle.spec_duties.specs.Cases.{Dutiful, Known, judged_rules, known_after, known_after_all, late_at_end, noted_by, watch_rules}
 use Rattle.spec_duties.specs.End.{any_unsent, either, first_waiting, is_brought_late, is_send_late, lates_at, lates_from, lates_of_all, lates_of_host, line_of}
 use Rattle.spec_duties.specs.declared.events.Event.{Event}
@@ -42,7 +44,7 @@ use Rattle.spec_duties.specs.declared.observations.Observation.{Observation}
 use Rattle.spec_duties.specs.declared.observations.Sampling.{Sampling}
 use Rattle.spec_duties.specs.declared.observations.TouchedEndpoint.{TouchedEndpoint}
 use Rattle.spec_duties.specs.Watching.{Duties, builds_mere_ack, built_after, built_by, counts_now, credits_after, duties_after, duty_rules}
-use Rattle.spec_duties.specs.Watching.{sent_by, strict_table_after, touched_rules, unsent_after}
+use Rattle.spec_duties.specs.Watching.{answer_rules, sent_by, strict_table_after, touched_rules, unsent_after}
 use Rattle.spec_duties.specs.declared.owed.Lates.{Lates}
 use Rattle.spec_duties.specs.declared.owed.Owed.{Owed}
 use Rattle.spec_duties.specs.declared.observations.BuiltChange.{BuiltChange}
@@ -51,6 +53,7 @@ use Rattle.spec_duties.specs.declared.tables.Built.{Built}
 use Rattle.spec_duties.specs.declared.views.View.{View}
 use Rattle.watched.specs.Levels.{CaseJudgedAlike, EndsBelow, known_judged, observed_with, touched_with, view_with}
 use Rattle.watched.proofs.LevelObservations.{shows_the_same, view_seen}
+use Rattle.watched.proofs.WaitLemmas.{any_same, same_by, waits_alike, waits_same}
 
 -- ---- what is kept doesn't depend on the edge
 
@@ -239,13 +242,13 @@ beyond_less j k edge (Builds m) v le higher e =
 beyond_less j k edge _ v le higher e = refl
 
 touched_fewer : (j : Judged) (h : Header) (slack moment : ℕ) (d : Duties) (counts : Bool) (sent : Option Unsent) (s : Sampling) (edge : ℕ)
-    (o : Option TouchedEndpoint)
+    (change : CallChange) (o : Option TouchedEndpoint)
     → extent j ≤ extent h.congestion
     → EndsBelow edge o
-    → AreFewer (on o [] (touched_rules h slack moment d counts sent s))
-    (on (option_map (touched_with edge) o) [] (touched_rules (header_by j h) slack moment d counts sent s))
-touched_fewer j h slack moment d counts sent s edge None le higher = tt
-touched_fewer j h slack moment d counts sent s edge (Some t) le higher = (
+    → AreFewer (on o (answer_rules slack moment d change) (touched_rules h slack moment d counts sent s))
+    (on (option_map (touched_with edge) o) (answer_rules slack moment d change) (touched_rules (header_by j h) slack moment d counts sent s))
+touched_fewer j h slack moment d counts sent s edge change None le higher = (λ e. e, tt)
+touched_fewer j h slack moment d counts sent s edge change (Some t) le higher = (
   λ e. e,
   (
     λ e. e,
@@ -286,7 +289,7 @@ rules_fewer j h moment d edge s (Some slack) le higher e =
           (
             λ e. e,
             touched_fewer j h slack moment d (counts_now (built_by d s.built_change))
-                (sent_by d s.built_change) s.sampling edge s.touched le higher,
+                (sent_by d s.built_change) s.sampling edge s.call_change s.touched le higher,
           ),
         ),
       ),
@@ -342,13 +345,31 @@ noted_same : (j : Judged) (h : Header) (moment : ℕ) (w : World tcp_shape) (edg
     → noted_by (header_by j h) moment (world_judged j h w) (observed_with edge s) d ≡ noted_by h moment w s d
 noted_same j h moment w edge s d =
     let seen = view_seen (profile_of (header_by j h)) w edge s.touched in
-    ap (λ (v : View). on h.slack d (λ slack. duties_after (says_sender h.version) slack v moment (observed_with edge s) d)) seen.1 ∙ by seen.0 h.slack
+    ap (λ (v : View). on h.slack d (λ slack. with (duties_after (says_sender h.version) slack v moment (observed_with edge s) d) was)) seen.1
+    ∙ by seen.0 h.slack
   where
+    with : Duties → Waits → Duties
+    with d x = record d { waits = if says_sender h.version then x else d.waits }
+
+    was : Waits
+    was = waits_after (world_judged j h w) moment (option_map (touched_with edge) s.touched) s.call_change s.socket_change d.waits
+
+    is : Waits
+    is = waits_after w moment s.touched s.call_change s.socket_change d.waits
+
+    waits : was ≡ is
+    waits =
+        waits_same (world_judged j h w) w (same_by (profile_of (header_by j h)) w) moment (option_map (touched_with edge) s.touched) s.call_change
+        s.socket_change d.waits
+        ∙ waits_alike w moment edge s.touched s.call_change s.socket_change d.waits
+
     by : (b : ℕ) (slack : Option ℕ)
-        → on slack d (λ slack. duties_after (says_sender h.version) slack (view_with b (view_in w s.touched)) moment (observed_with edge s) d)
-        ≡ on slack d (λ slack. duties_after (says_sender h.version) slack (view_in w s.touched) moment s d)
+        → on slack d (λ slack. with (duties_after (says_sender h.version) slack (view_with b (view_in w s.touched)) moment (observed_with edge s) d) was)
+        ≡ on slack d (λ slack. with (duties_after (says_sender h.version) slack (view_in w s.touched) moment s d) is)
     by b None = refl
-    by b (Some slack) = duties_same (says_sender h.version) slack edge b (view_in w s.touched) moment s d
+    by b (Some slack) =
+        ap (λ (x : Duties). with x was) (duties_same (says_sender h.version) slack edge b (view_in w s.touched) moment s d)
+        ∙ ap (λ (x : Waits). with (duties_after (says_sender h.version) slack (view_in w s.touched) moment s d) x) waits
 
 known_kept : (j : Judged) (h : Header) (moment : ℕ) (k : Known) (step : Step tcp_shape) → extent j ≤ extent h.congestion → IsJudged h k.model
     → known_after (header_by j h) moment (known_judged j h k) step ≡ known_judged j h (known_after h moment k step)
@@ -402,15 +423,23 @@ all_same h p slack moment d w =
 pub end_by : (j : Judged) (h : Header) (moment : ℕ) (k : Known) → late_at_end (header_by j h) moment (known_judged j h k) ≡ late_at_end h moment k
 end_by j h moment k = by h.slack
   where
-    with : ℕ → Lates → Option (ℕ × Rule)
-    with slack l =
+    with : ℕ → Lates → Bool → Option (ℕ × Rule)
+    with slack l late =
         option_map (λ rule. (line_of (first_waiting slack moment k.duties.inbox) rule, rule))
         (first_broken ((rules.ProcessLate, is_some (first_waiting slack moment k.duties.inbox))
         ∷ (rules.SendLate, any_unsent (is_send_late slack moment) k.duties.unsent)
-        ∷ late_rules (with_brought (any_unsent (is_brought_late slack moment) k.duties.unsent) l)))
+        ∷ late_rules (with_brought (any_unsent (is_brought_late slack moment) k.duties.unsent) l) ++ (rules.AnswerLate, late) ∷ []))
+
+    late : Header → ℕ → World tcp_shape → Bool
+    late h slack w = any_call (is_unanswered_late h slack moment w k.duties.waits) k.duties.waits.threads
 
     by : (o : Option ℕ)
-        → on o None (λ slack. with slack (lates_of_all h slack moment k.duties (world_judged j h k.model)))
-        ≡ on o None (λ slack. with slack (lates_of_all h slack moment k.duties k.model))
+        → on o None (λ slack. with slack (lates_of_all h slack moment k.duties (world_judged j h k.model)) (late (header_by j h) slack (world_judged j h k.model)))
+        ≡ on o None (λ slack. with slack (lates_of_all h slack moment k.duties k.model) (late h slack k.model))
     by None = refl
-    by (Some slack) = ap (with slack) (all_same h (profile_of (header_by j h)) slack moment k.duties k.model)
+    by (Some slack) =
+        ap (λ (l : Lates). with slack l (late (header_by j h) slack (world_judged j h k.model)))
+        (all_same h (profile_of (header_by j h)) slack moment k.duties k.model)
+        ∙ ap (with slack (lates_of_all h slack moment k.duties k.model))
+        (any_same (world_judged j h k.model) k.model (same_by (profile_of (header_by j h)) k.model) (header_by j h) h
+        (aim_same (profile_of (header_by j h)) j h k.model.hosts) slack moment k.duties.waits k.duties.waits.threads)

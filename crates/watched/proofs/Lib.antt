@@ -6,5 +6,6 @@ pub mod ForgetLemmas
 mod PlaceLemmas
 pub mod SlackLemmas
 pub mod SlackRuns
+mod WaitLemmas
 pub mod LevelObservations
 pub mod LevelRuns

@@ -24,9 +24,10 @@ use Rattle.spec_tcp.specs.Timeouts.{expiry_rules}
 use Rattle.spec_tcp.specs.declared.endpoint.Emission.{Emission}
 use Rattle.spec_tcp.specs.declared.endpoint.Endpoint.{Endpoint}
 use Rattle.spec_duties.specs.Dropped.{answering_breaks, bare, taking_breaks}
-use Rattle.spec_duties.specs.Observations.{observe_host_step, observe_effect, observe}
+use Rattle.spec_duties.specs.Observations.{observe_host_step, observe_effect, observe_pending, observe}
 use Rattle.spec_duties.specs.Slack.{with_slack}
 use Rattle.watched.specs.Slack.{SlackIsNotRead}
+use Rattle.watched.proofs.WaitLemmas.{open_same, same_self}
 
 -- for each slack
 module _ (slack : Option ℕ) (h : Header) where
@@ -164,15 +165,19 @@ module _ (slack : Option ℕ) (h : Header) where
       rw (taking, answering) refl
   shown_same moment w fresh host s (network.Answers line) = refl
 
-  called_shown : (w : World tcp_shape) (answer : Answer) (u : Turn tcp_shape) → observe_effect g w answer u ≡ observe_effect h w answer u
-  called_shown w answer Idle = refl
-  called_shown w answer (Called call) = rw (aim_same w.hosts (aim call)) refl
-  called_shown w answer (Answered given) = refl
+  pending_shown : (w : World tcp_shape) (answer : Answer) (call : Call) → observe_pending g w answer call ≡ observe_pending h w answer call
+  pending_shown w answer call = rw (aim_same w.hosts (aim call)) refl
+
+  called_shown : (w : World tcp_shape) (thread : ℕ) (answer : Answer) (u : Turn tcp_shape) → observe_effect g w thread answer u ≡ observe_effect h w thread answer u
+  called_shown w thread answer Idle = refl
+  called_shown w thread answer (Called call) =
+      open_same w w (same_self w) g h (aim_same w.hosts) thread answer call refl (pending_shown w answer call)
+  called_shown w thread answer (Answered given) = refl
 
   pub observed_same : (moment : ℕ) (w : World tcp_shape) (step : Step tcp_shape) → observe g moment w step ≡ observe h moment w step
   observed_same moment w (network.Begin line t call) = refl
   observed_same moment w (network.Finish line t answer) = refl
-  observed_same moment w (network.Effect t answer) = called_shown w answer (turn_of t w.threads)
+  observed_same moment w (network.Effect t answer) = called_shown w t answer (turn_of t w.threads)
   observed_same moment w (network.At host d) = shown_same moment w (suc w.count) host (pick w.hosts host) d
 
 pub slack_is_not_read : (slack : Option ℕ) (h : Header) → SlackIsNotRead slack h

@@ -14,12 +14,14 @@ ghost use Rattle.spec_tcp.specs.HostTcp.{given, queue_of};
 ghost use Rattle.spec_tcp.specs.Machine.{aim, tcp, tcp_shape};
 ghost use Rattle.spec_duties.specs.Observations.{observe_accept, accepting, observe_call, observe_close, is_done};
 ghost use Rattle.spec_duties.specs.Observations.{on_target};
-ghost use Rattle.spec_duties.specs.Observations.{observe_opened, observe_other, observe_pending, observe, unseen};
+ghost use Rattle.spec_duties.specs.Observations.{observe_open, observe_opened, observe_other, observe_pending, observe};
+ghost use Rattle.spec_duties.specs.Observations.{unseen};
 
 use crate::observations::{at_next, at_place, touching, unseen};
+use crate::waiting::{answering, socket_changing};
 use case_forms::{Answer, Call, Host};
 use endpoint_state::{HostTcp, World};
-use spec_duties::{Event, Observation, Queueing};
+use spec_duties::{CallChange, Event, Observation, Queueing, SocketChange};
 use spec_tcp::SocketTarget;
 
 fn is_done(answer: &Answer) -> bool
@@ -168,8 +170,8 @@ fn observe_call(host: Host, b: &HostTcp, call: &Call, answer: &Answer) -> Observ
     }
 }
 
-// The host that gave a socket number. None: neither did.
-fn giver(world: &World, number: u32) -> Option<Host>
+/// The host that gave a socket number. None: neither did.
+pub(crate) fn giver(world: &World, number: u32) -> Option<Host>
     ensures { result ≡ (if given (pick world.now.world.hosts Zero).body number then Some Zero
         else if given (pick world.now.world.hosts One).body number then Some One else None) }
 {
@@ -196,8 +198,8 @@ fn is_unwatched(call: &Call) -> bool
     }
 }
 
-// The host that a call applies to. None: neither gave its socket number.
-fn meant(world: &World, call: &Call) -> Option<Host>
+/// The host that a call applies to. None: neither gave its socket number.
+pub(crate) fn meant(world: &World, call: &Call) -> Option<Host>
     ensures { (h : Header) → result ≡ aim_of (tcp h) world.now.world.hosts (aim call.now) }
 {
     match call {
@@ -231,6 +233,28 @@ fn observe_pending(world: &World, call: &Call, answer: &Answer) -> Observation
     observe_call(host, world.body(host), call, answer)
 }
 
+// With what is judged of answers.
+#[inline(always)]
+fn observe_open(world: &World, thread: u32, call: &Call, answer: &Answer) -> Observation
+    requires { world.now.steps < most_steps }
+    ensures { result ≡ observe_open world.now.header world.now.world thread answer.now call.now }
+{
+    let seen = observe_pending(world, call, answer);
+    if world.header().version.says_sender() {
+        Observation {
+            call_change: answering(world, thread, answer, call),
+            socket_change: socket_changing(world, answer, call),
+            ..seen
+        }
+    } else {
+        Observation {
+            call_change: CallChange::Nothing,
+            socket_change: SocketChange::Nothing,
+            ..seen
+        }
+    }
+}
+
 /// What duties read of the world at the effect of a thread's open call, with this answer.
 #[tactic(auto, using(crate::proofs::CallLemmas::effect_is))]
 #[inline(always)]
@@ -244,7 +268,7 @@ pub(crate) fn observe_effect(
     ensures { result ≡ observe world.now.header moment world.now.world (Effect thread answer.now) }
 {
     match world.pending_call(thread) {
-        Some(call) => observe_pending(world, call, answer),
+        Some(call) => observe_open(world, thread, call, answer),
         None => unseen(),
     }
 }

@@ -4,16 +4,18 @@ ghost use Rattle.std.specs.Prelude.{◌≡◌, ◌≤◌, length, slice_get};
 ghost use Rattle.std.specs.Option.{option_map_or};
 ghost use Rattle.spec_network.specs.Tables.{pick};
 ghost use Rattle.spec_tcp.specs.Bounds.{most_steps};
+ghost use Rattle.spec_duties.specs.Answering.{any_call, is_unanswered_late};
 ghost use Rattle.spec_duties.specs.End.{any_unsent, either, first_waiting, is_brought_late, is_send_late};
 ghost use Rattle.spec_duties.specs.End.{late_at_end, lates_at, lates_of_all, lates_of_host};
 
+use crate::waiting::waiting_on;
 use case_forms::{Header, Host};
 use duties::{
-    Duties, acknowledge_due, admits_lates, either, is_late, is_late_at_once, none_late, view_of,
-    with_brought,
+    Duties, acknowledge_due, admits_lates, answer_due, either, is_late, is_late_at_once, none_late,
+    unanswered_since, view_of, with_brought,
 };
 use endpoint_state::{Endpoint, HostTcp, World};
-use spec_duties::{Lates, Unsent};
+use spec_duties::{Lates, OpenCall, Unsent};
 use spec_tcp::EndpointId;
 use verdict::Rule;
 
@@ -148,6 +150,44 @@ fn lates_of_all(at: End<'_>, duties: &Duties, world: &World) -> Lates
     lates_of_host(at, duties, world, Host::One, zero)
 }
 
+// Whether an answer is late to a call of a thread.
+fn is_unanswered_late(at: End<'_>, duties: &Duties, world: &World, call: OpenCall) -> bool
+    ensures { result ≡ is_unanswered_late at.entry.header.now at.entry.slack at.entry.moment world.now.world
+        duties.now.waits call }
+{
+    let since = match call {
+        OpenCall::Waits {
+            socket, awaited, ..
+        } => match waiting_on(world, awaited, socket) {
+            Some(waiting) => unanswered_since(duties.ready_for(waiting), call),
+            None => None,
+        },
+        OpenCall::Answered { .. } => duties.answered_since(call),
+    };
+    is_late(at.slack, at.moment, answer_due(since))
+}
+
+// Whether one is to any call.
+fn is_any_answer_late(
+    at: End<'_>,
+    duties: &Duties,
+    world: &World,
+    calls: &[(u64, Option<OpenCall>)],
+) -> bool
+    ensures { result ≡ any_call
+        (is_unanswered_late at.entry.header.now at.entry.slack at.entry.moment world.now.world duties.now.waits)
+        calls.now }
+{
+    for entry in calls {
+        if let Some(call) = &entry.1 {
+            if is_unanswered_late(at, duties, world, *call) {
+                return true;
+            }
+        }
+    }
+    false
+}
+
 /// The least rule that a duty breaks at the end, if the last step was at this moment, with its line: that of a segment
 /// that still waits, else 0. The slack and moments are in microseconds. None: no duty is late.
 pub fn late_at_end(
@@ -172,8 +212,11 @@ pub fn late_at_end(
         moment,
     };
     let brought = is_any_brought_late(slack, moment, duties.unsent());
-    match admits_lates(with_brought(brought, lates_of_all(at, duties, world))) {
-        Ok(()) => None,
-        Err(rule) => Some((0, rule)),
+    if let Err(rule) = admits_lates(with_brought(brought, lates_of_all(at, duties, world))) {
+        return Some((0, rule));
     }
+    if is_any_answer_late(at, duties, world, duties.open_calls()) {
+        return Some((0, Rule::AnswerLate));
+    }
+    None
 }

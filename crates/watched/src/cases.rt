@@ -9,7 +9,7 @@ ghost use Rattle.spec_step.specs.Asked.{step_taking};
 ghost use Rattle.spec_step.specs.Faults.{IfBroken};
 ghost use Rattle.spec_tcp.specs.Bounds.{most_steps};
 ghost use Rattle.spec_duties.specs.Cases.{after, asked_after, asked_rules, broken_by, judged_rules, late_at_end};
-ghost use Rattle.spec_duties.specs.Cases.{noted_by};
+ghost use Rattle.spec_duties.specs.Cases.{noted_by, with_waits};
 ghost use Rattle.spec_duties.specs.Cases.{start};
 ghost use Rattle.spec_duties.specs.Observations.{observe};
 ghost use Rattle.watched.specs.Watched.{IsPlain, case_of, noted};
@@ -19,7 +19,8 @@ use crate::case_end;
 use crate::observations::{
     observe_hidden, observe_line, observe_making, observe_sending, observe_taking, view_in,
 };
-use case_forms::{Event, Extras, Header, Line, TakenLine};
+use crate::waiting::note_waits;
+use case_forms::{Event, Extras, Header, Line, OutOfMemory, TakenLine};
 use duties::{Duties, judged_slack};
 use endpoint_state::{StepFault, World};
 use spec_duties::Observation;
@@ -104,6 +105,24 @@ impl Case {
     }
 }
 
+// Notes what a step does to calls that wait, for the stricter duties.
+#[inline(always)]
+fn note_waits_if(
+    strict: bool,
+    world: &World,
+    duties: &mut Duties,
+    moment: u64,
+    seen: &Observation,
+) -> Result<(), OutOfMemory>
+    ensures { OnOk result (duties.new ≡ with_waits strict moment world.now.world seen.now duties.old) }
+{
+    if strict {
+        note_waits(world, duties, moment, seen)
+    } else {
+        Ok(())
+    }
+}
+
 // Judges a step that the model did, and notes it if no duty refuses it.
 #[inline(always)]
 fn watch(
@@ -123,6 +142,7 @@ fn watch(
     duties.admits(world.header(), slack, moment, seen)?;
     let strict = world.header().version.says_sender();
     duties.note(strict, slack, moment, seen, &view_in(world, &seen.touched))?;
+    note_waits_if(strict, world, duties, moment, seen)?;
     Ok(())
 }
 
@@ -151,7 +171,8 @@ fn watch_step<S: ModelStep>(
     }
 }
 
-// Whether duties judge nothing of a step that takes a line: the header says `any`, or a call begins or ends.
+// Whether duties judge nothing of a step that takes a line: the header says `any`, or a call begins or ends in versions
+// 1 to 5.
 #[tactic(auto, using(crate::proofs::CaseLemmas::begin_is_plain, crate::proofs::CaseLemmas::end_is_plain))]
 #[inline(always)]
 fn is_plain(header: &Header, line: &Line) -> bool
@@ -161,7 +182,7 @@ fn is_plain(header: &Header, line: &Line) -> bool
         return true;
     }
     match &line.event {
-        Event::CallBegin(_) | Event::CallEnd(_) => true,
+        Event::CallBegin(_) | Event::CallEnd(_) => !header.version.says_sender(),
         Event::Sent(_, _) | Event::Came(_, _) | Event::Expired(_, _, _, _) => false,
     }
 }

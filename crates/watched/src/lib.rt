@@ -8,6 +8,7 @@
 //! - `cases`: a case with its duties: each step, and the comparison at the end
 //! - `observations`: what a step shows of the world; `calls`: the same for the effect of a call; `dropped`: for a
 //!   segment that is dropped; `sampling`: whether a round trip is measured; `credits`: whether a credit is earned
+//! - `waiting`: calls that wait, and what is kept of them
 //! - `case_end`: what is late at the end; `laws`: what duties read of the world and of the header
 #![tactic(auto)]
 
@@ -19,6 +20,7 @@ mod dropped;
 mod laws;
 mod observations;
 mod sampling;
+mod waiting;
 
 pub use case_end::late_at_end;
 pub use cases::{Case, apply_hidden, take_line};
@@ -27,3 +29,4 @@ pub use laws::{
     slack_is_not_read,
 };
 pub use observations::{observe_hidden, observe_line, view_in};
+pub use waiting::{note_waits, waiting_on};

@@ -24,14 +24,15 @@ use crate::dropped::{
     admits_answering, admits_processing, discards_at, droppable_by, is_old, target_of,
 };
 use crate::sampling::sampling_at;
+use crate::waiting::{observe_begin, observe_end};
 use case_forms::{Host, Ports, SegmentPlan, TakeChoice, TakenLine, Version};
 use duties::{
     Target, asks, dropping_of, has_content, processing_place, reads_old_numbers, unborn, view_of,
 };
 use endpoint_state::{HostTcp, World};
 use spec_duties::{
-    BuiltChange, Event, InboxChange, Observation, Queueing, Sampling, Sending, TouchedEndpoint,
-    View,
+    BuiltChange, CallChange, Event, InboxChange, Observation, Queueing, Sampling, Sending,
+    SocketChange, TouchedEndpoint, View,
 };
 use spec_step::Hidden;
 use spec_tcp::Emission;
@@ -51,6 +52,8 @@ pub(crate) fn unseen() -> Observation
         discards: false,
         sampling: Sampling::Nothing,
         earns: false,
+        call_change: CallChange::Nothing,
+        socket_change: SocketChange::Nothing,
     }
 }
 
@@ -324,7 +327,8 @@ pub fn observe_line(world: &World, moment: u64, line: &TakenLine) -> Observation
     ensures { result ≡ observe world.now.header moment world.now.world (line_step line.now) }
 {
     match line {
-        TakenLine::CallBegin { .. } | TakenLine::CallEnd { .. } => unseen(),
+        TakenLine::CallBegin { thread, call, .. } => observe_begin(world.header(), *thread, call),
+        TakenLine::CallEnd { thread, .. } => observe_end(world.header(), *thread),
         TakenLine::Sent { host, made, .. } => observe_sending(world, *host, *made),
         TakenLine::Came { line, .. } | TakenLine::Heard { line, .. } => observe_arrival(*line),
         TakenLine::Expired {

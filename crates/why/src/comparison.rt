@@ -21,6 +21,7 @@ pub(crate) fn compare(out: &mut String, scene: &Scene, rule: Rule) -> Result<(),
         Rule::AckExcess => limits::ack_excess(out, scene),
         Rule::SampleDue => limits::sample_due(out, scene),
         Rule::ProcessLate => late::waiting(out, scene),
+        Rule::AnswerLate => late::answer(out, scene),
         Rule::SendLate => {
             late::never_sent(out, scene)?;
             compare_at(out, scene, rule)
@@ -37,7 +38,6 @@ pub(crate) fn compare(out: &mut String, scene: &Scene, rule: Rule) -> Result<(),
         }
         Rule::Socket
         | Rule::CallAnswer
-        | Rule::AnswerLate
         | Rule::Iss
         | Rule::BytesDiffer
         | Rule::NotMade

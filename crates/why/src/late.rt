@@ -1,11 +1,14 @@
 //! The rules of duties that are late, at a step or after the last one.
 
+use crate::calls::{describe_thread, giver};
 use crate::described::{describe, describe_ports};
 use crate::scene::{Object, Scene};
 use crate::sendable::say_sendable;
 use case_forms::{Label, OutOfMemory};
+use duties::{answer_due, is_late, unanswered_since};
 use plain_words::{Shown, about};
 use replayed::{Held, Refusal};
+use spec_duties::{OpenCall, Waiting};
 use verdict::Rule;
 
 /// Writes which duty is late after the last step, if one is, and the endpoint whose it is.
@@ -123,6 +126,66 @@ fn brought(out: &mut String, scene: &Scene, held: Held) -> Result<(), OutOfMemor
         "; it brings an acknowledgment that is owed since {since}"
     )?;
     say_due(out, scene, "an acknowledgment", held.late.due)
+}
+
+/// Since when a call need not wait any more, and when its answer was due.
+pub(crate) fn answer(out: &mut String, scene: &Scene) -> Result<(), OutOfMemory> {
+    let Some((thread, since)) = late_answer(scene) else {
+        return Ok(());
+    };
+    if scene.step.is_none() {
+        describe_thread(out, scene, thread)?;
+    }
+    write!(
+        out,
+        "the answer to thread {thread} is owed since {since}; "
+    )?;
+    let due = answer_due(Some(since)).unwrap_or(0);
+    say_due(out, scene, "it", due)
+}
+
+// The first thread whose answer is late, if it is that of the step, and since when it is owed.
+fn late_answer(scene: &Scene) -> Option<(u32, u64)> {
+    let slack = scene.header().slack?;
+    let moment = match scene.step {
+        Some(step) => step.moment,
+        None => scene.last_moment(),
+    };
+    for entry in scene.duties.open_calls() {
+        let thread = u32::try_from(entry.0).ok()?;
+        if let Some(call) = entry.1
+            && is_concerned(scene, thread)
+            && let Some(since) = answer_since(scene, call)
+            && is_late(slack, moment, answer_due(Some(since)))
+        {
+            return Some((thread, since));
+        }
+    }
+    None
+}
+
+// Whether the step answers the call of a thread or ends it, or all steps are done.
+fn is_concerned(scene: &Scene, thread: u32) -> bool {
+    match scene.object() {
+        Object::Effect(other, _) | Object::End(other, _) => thread == other,
+        _ => scene.step.is_none(),
+    }
+}
+
+// Since when the answer to a call is owed. None: it isn't.
+fn answer_since(scene: &Scene, call: OpenCall) -> Option<u64> {
+    let OpenCall::Waits {
+        socket, awaited, ..
+    } = call else {
+        return scene.duties.answered_since(call);
+    };
+    let host = giver(scene.world, socket)?;
+    let waiting = Waiting {
+        host,
+        target: scene.world.body(host).target(socket)?,
+        awaited,
+    };
+    unanswered_since(scene.duties.ready_for(waiting), call)
 }
 
 // Writes what could be sent, if the duty is that of a window that was closed.

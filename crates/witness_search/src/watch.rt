@@ -10,7 +10,7 @@ use endpoint_state::{StepFault, World};
 use spec_duties::Observation;
 use spec_step::{Hidden, ModelStep};
 use verdict::Rule;
-use watched::{observe_hidden, observe_line, view_in};
+use watched::{note_waits, observe_hidden, observe_line, view_in};
 
 /// When a step is done, and how duties judge it.
 #[derive(Clone, Copy)]
@@ -60,6 +60,9 @@ impl Watch {
         let now = view_in(world, &seen.touched);
         let strict = world.header().version.says_sender();
         duties.note(strict, self.slack, self.moment, seen, &now)?;
+        if strict {
+            note_waits(world, duties, self.moment, seen)?;
+        }
         Ok(())
     }
 

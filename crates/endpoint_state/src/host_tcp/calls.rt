@@ -57,7 +57,8 @@ impl HostTcp {
         }
     }
 
-    fn target_allows(&self, call: &Call, answer: &Answer, target: SocketTarget) -> bool
+    /// Whether a call on a live socket number that names this target may have this answer.
+    pub fn target_allows(&self, call: &Call, answer: &Answer, target: SocketTarget) -> bool
         ensures { result ≡ target_allows self.now call.now answer.now target }
     {
         match target {

@@ -53,6 +53,15 @@ impl Progress {
         }
     }
 
+    // How late an answer may be. None: answers aren't judged, as in versions 1 to 5.
+    fn answer_slack(&self) -> Option<u64> {
+        if self.world.header().version.says_sender() {
+            self.slack()
+        } else {
+            None
+        }
+    }
+
     // Does a step that takes a line and that duties judge.
     fn watch_line(&mut self, slack: u64, line: TakenLine, will: Will) -> Result<(), StepFault>
         requires { self.old.world.steps < most_steps }
@@ -95,14 +104,39 @@ impl Progress {
     /// The current line begins a call.
     pub(crate) fn begin(&mut self, thread: u32, call: &Call) -> Result<u64, Stop> {
         has_room(&self.world)?;
-        let done = self.world.begin(thread, call.copy()?);
+        let (line, call) = (self.log.number, call.copy()?);
+        let done = match self.answer_slack() {
+            Some(slack) => {
+                self.watch_line(
+                    slack,
+                    TakenLine::CallBegin { line, thread, call },
+                    Will::Insist,
+                )
+            }
+            None => self.world.begin(thread, call),
+        };
         self.log.push_current(Extras::Bare, done)
     }
 
     /// The current line ends a call.
     pub(crate) fn finish(&mut self, thread: u32, answer: &Answer) -> Result<u64, Stop> {
         has_room(&self.world)?;
-        let done = self.world.finish(thread, answer);
+        let line = self.log.number;
+        let done = match self.answer_slack() {
+            Some(slack) => {
+                let answer = answer.copy()?;
+                self.watch_line(
+                    slack,
+                    TakenLine::CallEnd {
+                        line,
+                        thread,
+                        answer,
+                    },
+                    Will::Insist,
+                )
+            }
+            None => self.world.finish(thread, answer),
+        };
         self.log.push_current(Extras::Bare, done)
     }
 
