@@ -17,6 +17,7 @@
 //! - `specs/Acknowledge`, `specs/Expire`, `specs/Retransmit`, `specs/Probe`, `specs/Start`, `specs/Reset`: a duty of an
 //!   endpoint each: when it arises, by when it is due, and what ends it
 //! - `specs/Resent`, `specs/Excess`: how often positions and acknowledgments are sent at most
+//! - `specs/Credits`: which acknowledgments need a segment that came, in version 6
 //! - `specs/Dropped`: which segments may be dropped, and which of them ask for an acknowledgment
 //! - `specs/Strict`: the duties that are stricter in version 6, or have later deadlines; `specs/Sampling`: when round
 //!   trips are measured at least; `specs/Answering`: by when a call that waits is answered
