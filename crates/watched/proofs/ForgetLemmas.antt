@@ -57,7 +57,7 @@ use Rattle.spec_duties.specs.declared.observations.Queueing.{Queueing}
 use Rattle.spec_duties.specs.declared.observations.Queueing.TheVariants as queueing
 use Rattle.spec_duties.specs.declared.observations.Observation.{Observation}
 use Rattle.spec_duties.specs.declared.observations.TouchedEndpoint.{TouchedEndpoint}
-use Rattle.watched.proofs.WaitLemmas.{any_same, open_same, same_forget}
+use Rattle.watched.proofs.WaitLemmas.{any_same, opening_same, same_forget}
 
 pub view-forget : (e : Endpoint) → view_of (forget_endpoint e) ≡ view_of e
 view-forget e = rw (snd_max-forget e, end_of-forget e, rcv_nxt-forget e) refl
@@ -279,7 +279,7 @@ effect-seen : (h : Header) (w : World tcp_shape) (thread : ℕ) (answer : Answer
     → observe_effect h (forget w) thread answer u ≡ observe_effect h w thread answer u
 effect-seen h w thread answer Idle = refl
 effect-seen h w thread answer (Called call) =
-    open_same (forget w) w (same_forget w) h h (aim-forget h w) thread answer call refl (pending-seen h w answer call)
+    opening_same (forget w) w (same_forget w) h h (aim-forget h w) thread answer call refl (pending-seen h w answer call)
 effect-seen h w thread answer (Answered given) = refl
 
 pub observe-forget : (h : Header) (moment : ℕ) (w : World tcp_shape) (step : Step tcp_shape) → observe h moment (forget w) step ≡ observe h moment w step

@@ -27,7 +27,7 @@ use Rattle.spec_duties.specs.Dropped.{answering_breaks, bare, taking_breaks}
 use Rattle.spec_duties.specs.Observations.{observe_host_step, observe_effect, observe_pending, observe}
 use Rattle.spec_duties.specs.Slack.{with_slack}
 use Rattle.watched.specs.Slack.{SlackIsNotRead}
-use Rattle.watched.proofs.WaitLemmas.{open_same, same_self}
+use Rattle.watched.proofs.WaitLemmas.{opening_same, same_self}
 
 -- for each slack
 module _ (slack : Option ℕ) (h : Header) where
@@ -171,7 +171,7 @@ module _ (slack : Option ℕ) (h : Header) where
   called_shown : (w : World tcp_shape) (thread : ℕ) (answer : Answer) (u : Turn tcp_shape) → observe_effect g w thread answer u ≡ observe_effect h w thread answer u
   called_shown w thread answer Idle = refl
   called_shown w thread answer (Called call) =
-      open_same w w (same_self w) g h (aim_same w.hosts) thread answer call refl (pending_shown w answer call)
+      opening_same w w (same_self w) g h (aim_same w.hosts) thread answer call refl (pending_shown w answer call)
   called_shown w thread answer (Answered given) = refl
 
   pub observed_same : (moment : ℕ) (w : World tcp_shape) (step : Step tcp_shape) → observe g moment w step ≡ observe h moment w step

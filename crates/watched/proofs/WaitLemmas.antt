@@ -19,6 +19,7 @@ use Rattle.spec_tcp.specs.Forgetting.{forget}
 use Rattle.spec_tcp.specs.HostTcp.{socket_target}
 use Rattle.spec_tcp.specs.Machine.{aim, gives, tcp, tcp_shape}
 use Rattle.spec_tcp.specs.declared.endpoint.SocketTarget.{SocketTarget}
+use Rattle.spec_tcp.specs.declared.endpoint.SocketTarget.TheVariants.{EndpointAt, ListenerAt}
 use Rattle.spec_tcp_laws.specs.Judging.{world_by}
 use Rattle.spec_tcp_laws.proofs.ForgetCalls.{target-forget}
 use Rattle.spec_tcp_laws.proofs.JudgedBodies.{target_allows_by}
@@ -78,7 +79,7 @@ same_self w = record { sockets = λ host n. refl; may = λ host target awaited. 
 -- ---- what is kept
 
 module _ (v w : World tcp_shape) (same : SameSockets v w) where
-  three : Bool → Bool → Bool → Waitable
+  abbrev three : Bool → Bool → Bool → Waitable
   three bytes connection child = record { bytes = bytes; connection = connection; child = child }
 
   waitable_same : (host : Host) (target : SocketTarget) → waitable (pick v.hosts host).body target ≡ waitable (pick w.hosts host).body target
@@ -94,13 +95,13 @@ module _ (v w : World tcp_shape) (same : SameSockets v w) where
 
   listener_same : (moment : ℕ) (host : Host) (o : Option ℕ) (a : Waits) → listener_seen v moment host o a ≡ listener_seen w moment host o a
   listener_same moment host None a = refl
-  listener_same moment host (Some l) a = again_same moment host _ a
+  listener_same moment host (Some l) a = again_same moment host (ListenerAt l) a
 
   touched_same : (moment : ℕ) (o : Option TouchedEndpoint) (a : Waits) → touched_seen v moment o a ≡ touched_seen w moment o a
   touched_same moment None a = refl
   touched_same moment (Some t) a =
-      ap (λ (x : Waits). listener_seen v moment t.host t.before.listener x) (again_same moment t.host _ a)
-      ∙ listener_same moment t.host t.before.listener _
+      ap (λ (x : Waits). listener_seen v moment t.host t.before.listener x) (again_same moment t.host (EndpointAt t.place) a)
+      ∙ listener_same moment t.host t.before.listener (seen_again w moment t.host (EndpointAt t.place) a)
 
   answer_same : (moment : ℕ) (c : CallChange) (a : Waits) → answer_seen v moment c a ≡ answer_seen w moment c a
   answer_same moment (call_change.Answers thread (Some x)) a = again_same moment x.host x.target a
@@ -211,10 +212,10 @@ module _ (v w : World tcp_shape) (same : SameSockets v w) (g h : Header) (aims :
             socket_change = if says_sender x then k else socket_change.Nothing;
           }
 
-  pub open_same : (thread : ℕ) (answer : Answer) (call : Call) → g.version ≡ h.version
+  pub opening_same : (thread : ℕ) (answer : Answer) (call : Call) → g.version ≡ h.version
       → observe_pending g v answer call ≡ observe_pending h w answer call
       → observe_open g v thread answer call ≡ observe_open h w thread answer call
-  open_same thread answer call version pending =
+  opening_same thread answer call version pending =
       ap (λ (s : Observation). with s) pending ∙ opened_same (observe_pending h w answer call) thread answer call version
     where
       with : Observation → Observation

@@ -4,7 +4,9 @@ ghost use Rattle.std.specs.Prelude.{◌≡◌, ◌≤◌, length, slice_get};
 ghost use Rattle.std.specs.Option.{option_map_or};
 ghost use Rattle.spec_network.specs.Tables.{pick};
 ghost use Rattle.spec_tcp.specs.Bounds.{most_steps};
-ghost use Rattle.spec_duties.specs.Answering.{any_call, is_unanswered_late};
+ghost use Rattle.case_forms.specs.declared.trace.Header.{Header};
+ghost use Rattle.spec_duties.specs.Answering.{any_call, is_unanswered_late, owed_at_end};
+ghost use Rattle.spec_duties.specs.declared.answering.OpenCall.TheVariants as open_call;
 ghost use Rattle.spec_duties.specs.End.{any_unsent, either, first_waiting, is_brought_late, is_send_late};
 ghost use Rattle.spec_duties.specs.End.{late_at_end, lates_at, lates_of_all, lates_of_host};
 
@@ -15,7 +17,7 @@ use duties::{
     unanswered_since, view_of, with_brought,
 };
 use endpoint_state::{Endpoint, HostTcp, World};
-use spec_duties::{Lates, OpenCall, Unsent};
+use spec_duties::{Awaited, Lates, OpenCall, Unsent};
 use spec_tcp::EndpointId;
 use verdict::Rule;
 
@@ -150,21 +152,49 @@ fn lates_of_all(at: End<'_>, duties: &Duties, world: &World) -> Lates
     lates_of_host(at, duties, world, Host::One, zero)
 }
 
-// Whether an answer is late to a call of a thread.
+// Since when an answer is owed to a call without one.
+fn waits_since(
+    world: &World,
+    duties: &Duties,
+    since: u64,
+    awaited: Awaited,
+    socket: u32,
+) -> Option<u64>
+    ensures { (h : Header) → result
+        ≡ owed_at_end h world.now.world duties.now.waits (open_call.Waits since socket awaited) }
+{
+    let call = OpenCall::Waits {
+        since,
+        socket,
+        awaited,
+    };
+    match waiting_on(world, awaited, socket) {
+        Some(waiting) => unanswered_since(duties.ready_for(waiting), call),
+        None => None,
+    }
+}
+
+// Since when one is owed to a call.
+fn owed_at_end(world: &World, duties: &Duties, call: OpenCall) -> Option<u64>
+    ensures { (h : Header) → result ≡ owed_at_end h world.now.world duties.now.waits call }
+{
+    match call {
+        OpenCall::Waits {
+            since,
+            socket,
+            awaited,
+        } => waits_since(world, duties, since, awaited, socket),
+        OpenCall::Answered { .. } => duties.answered_since(call),
+    }
+}
+
+// Whether an answer is late to a call.
 fn is_unanswered_late(at: End<'_>, duties: &Duties, world: &World, call: OpenCall) -> bool
     ensures { result ≡ is_unanswered_late at.entry.header.now at.entry.slack at.entry.moment world.now.world
         duties.now.waits call }
 {
-    let since = match call {
-        OpenCall::Waits {
-            socket, awaited, ..
-        } => match waiting_on(world, awaited, socket) {
-            Some(waiting) => unanswered_since(duties.ready_for(waiting), call),
-            None => None,
-        },
-        OpenCall::Answered { .. } => duties.answered_since(call),
-    };
-    is_late(at.slack, at.moment, answer_due(since))
+    let due = answer_due(owed_at_end(world, duties, call));
+    is_late(at.slack, at.moment, due)
 }
 
 // Whether one is to any call.
