@@ -427,8 +427,8 @@ none_lacks : (h : Header) (slack moment : ℕ) (d : Duties) (s : Observation) (t
 none_lacks h slack moment d s t shows none =
     let rules = (none_all (duty_rules h slack moment d s) none).1.1.1.1 in
     let here =
-    subst (λ (o : Option TouchedEndpoint). AllByRecursion (λ r. r.1 ≡ false) (on o [] (touched_rules h slack moment d
-    (counts_now (built_by d s.built_change)) (sent_by d s.built_change) s.sampling))) shows rules in
+    subst (λ (o : Option TouchedEndpoint). AllByRecursion (λ r. r.1 ≡ false) (on o (answer_rules slack moment d s.call_change)
+    (touched_rules h slack moment d (counts_now (built_by d s.built_change)) (sent_by d s.built_change) s.sampling))) shows rules in
     second (is_excess (counts_now (built_by d s.built_change)) (owed_by d t.host t.place).answers) _ here.1.1.1.1.1.1.1.1.0
   where
     second : (a b : Bool) → a || b ≡ false → b ≡ false
