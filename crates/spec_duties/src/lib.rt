@@ -34,9 +34,7 @@ mod strict;
 mod tables;
 mod views;
 
-pub use answering::{
-    Awaited, CallChange, OpenCall, Ready, SocketChange, Waitable, Waiting,
-};
+pub use answering::{Awaited, CallChange, OpenCall, Ready, SocketChange, Waitable, Waiting};
 pub use events::{Event, Sending};
 pub use observations::{
     BuiltChange, Droppable, Dropping, InboxChange, Observation, Queueing, Sampling, TouchedEndpoint,

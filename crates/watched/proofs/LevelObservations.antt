@@ -367,8 +367,7 @@ open_seen : (p : Profile) (j : Judged) (h : Header) (w : World tcp_shape) (threa
     → ((host : Host) → MayJudgeAll p (pick w.hosts host).body)
     → ShowsHigher (observe_open h w thread answer call) (observe_open (header_by j h) (world_by p w) thread answer call)
 open_seen p j h w thread answer call may =
-    let seen = pending_seen p j h w answer call may in
-    (
+    let seen = pending_seen p j h w answer call may in (
       seen.0,
       ap (λ (s : Observation). with s) seen.1
           ∙ opened_same (world_by p w) w (same_by p w) (header_by j h) h (aim_same p j h w.hosts)

@@ -136,10 +136,7 @@ pub(crate) fn answer(out: &mut String, scene: &Scene) -> Result<(), OutOfMemory>
     if scene.step.is_none() {
         describe_thread(out, scene, thread)?;
     }
-    write!(
-        out,
-        "the answer to thread {thread} is owed since {since}; "
-    )?;
+    write!(out, "the answer to thread {thread} is owed since {since}; ")?;
     let due = answer_due(Some(since)).unwrap_or(0);
     say_due(out, scene, "it", due)
 }
@@ -175,8 +172,11 @@ fn is_concerned(scene: &Scene, thread: u32) -> bool {
 // Since when the answer to a call is owed. None: it isn't.
 fn answer_since(scene: &Scene, call: OpenCall) -> Option<u64> {
     let OpenCall::Waits {
-        socket, awaited, ..
-    } = call else {
+        socket,
+        awaited,
+        ..
+    } = call
+    else {
         return scene.duties.answered_since(call);
     };
     let host = giver(scene.world, socket)?;
