@@ -30,7 +30,8 @@ none_below : (k : ℕ) (es : List (ℕ × ℕ)) → AllByRecursion (λ y. nat_cm
 none_below k [] all = refl
 none_below k (e ∷ es) all = rw all.0 (none_below k es all.1)
 
-lower : (k c : ℕ) (es : List (ℕ × ℕ)) → nat_cmp k c ≡ Less → AllByRecursion (λ y. nat_cmp c y ≡ Less) (keys_of es) → AllByRecursion (λ y. nat_cmp k y ≡ Less) (keys_of es)
+lower : (k c : ℕ) (es : List (ℕ × ℕ)) → nat_cmp k c ≡ Less → AllByRecursion (λ y. nat_cmp c y ≡ Less) (keys_of es)
+    → AllByRecursion (λ y. nat_cmp k y ≡ Less) (keys_of es)
 lower k c [] less all = tt
 lower k c (e ∷ es) less all = (let next : nat_cmp c e.0 ≡ Less = all.0 in grind (arith, nat_tests, less, next), lower k c es less all.1)
 

@@ -35,7 +35,8 @@ use Rattle.spec_duties.specs.Slack.{AtMost, HasMoreCredits, LessLateIsMoreAccept
 use Rattle.spec_duties.specs.Start.{start_due}
 use Rattle.spec_duties.specs.Strict.{coarse_expiry_due, coarse_probing_due, strict_lates, with_brought}
 use Rattle.spec_duties.specs.Views.{view_of}
-use Rattle.spec_duties.specs.Watching.{Duties, brought_by, built_by, counts_now, credits_after, credits_earned, credits_spent, duty_rules, judged_lates, lacks_credit}
+use Rattle.spec_duties.specs.Watching.{Duties, brought_by, built_by, counts_now, credits_after, credits_earned}
+use Rattle.spec_duties.specs.Watching.{credits_spent, duty_rules, judged_lates, lacks_credit}
 use Rattle.spec_duties.specs.Watching.{answer_rules, leaves_late, listener_closed, owed_by, sends_in_excess, sent_by, sent_late, strict_by, touched_rules}
 use Rattle.spec_duties.specs.declared.answering.OpenCall.TheVariants as open_call
 use Rattle.spec_duties.specs.declared.owed.Lates.{Lates}

@@ -628,8 +628,8 @@ impl Duties {
         note_built_change(&mut self.built, moment, seen, after)
     }
 
-    /// Notes a step, if the endpoint that it touched is then seen like this; `strict`: for the stricter duties, too, with
-    /// this slack in microseconds. If memory runs out, the duties are of no use any more.
+    /// Notes a step, if the endpoint that it touched is then seen like this; `strict`: for the stricter duties, too,
+    /// with this slack in microseconds. If memory runs out, the duties are of no use any more.
     #[inline(always)]
     pub fn note(
         &mut self,

@@ -371,8 +371,8 @@ pub(crate) fn strict_after(
     keeps_alive: bool,
     owed: &StrictOwed,
 ) -> StrictOwed
-    ensures { result
-        ≡ strict_after sampling touched.now.event touched.now.before after.now moment acknowledged keeps_alive owed.now }
+    ensures { result ≡ strict_after sampling touched.now.event touched.now.before after.now moment acknowledged
+        keeps_alive owed.now }
 {
     let (event, before) = (&touched.event, &touched.before);
     StrictOwed {

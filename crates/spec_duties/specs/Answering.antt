@@ -1,5 +1,6 @@
 -- A call that waits is answered: once `recv`, `await` or `accept` can't be answered `again` any more, the program gets
--- the answer within half a second (RFC 9293, 3.9.1, which leaves the time open: half a second is this project's choice).
+-- the answer within half a second (RFC 9293, 3.9.1, which leaves the time open: half a second is this project's
+-- choice).
 use Rattle.std.specs.Prelude.{ℕ, max, Bool, true, false, ◌||◌, if◌then◌else◌, List, [], ◌∷◌, Option, None, Some}
 use Rattle.std.specs.Prelude.{nat_eq, unwrap_or}
 use Rattle.std.specs.Option.{option_map, option_map_or, option_or}
@@ -35,8 +36,8 @@ pub use Rattle.spec_duties.specs.declared.answering.Waiting.{Waiting}
 
 -- ---- what is kept
 
--- the open call of each thread that may have to wait; and for each live socket, by the place of the endpoint or listener
--- that it names, since when no call on it has to wait. What ended left None in its place
+-- the open call of each thread that may have to wait; and for each live socket, by the place of the endpoint or
+-- listener that it names, since when no call on it has to wait. What ended left None in its place
 pub record Waits : Type 0 where
   pub threads : List (ℕ × Option OpenCall)
   pub endpoints : Both (List (ℕ × Option Ready))

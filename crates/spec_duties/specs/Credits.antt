@@ -1,5 +1,6 @@
 -- Credits: in version 6, what does nothing but acknowledge is sent for a segment that came at most half a second before
--- it was built (RFC 5681, 4.2; RFC 9293, 3.10.7.4). Each such segment gives a credit, and each acknowledgment takes one.
+-- it was built (RFC 5681, 4.2; RFC 9293, 3.10.7.4). Each such segment gives a credit, and each acknowledgment takes
+-- one.
 use Rattle.std.specs.Prelude.{ℕ, ◌+◌, ◌-◌, ◌*◌, ◌^◌, ◌==◌, nat_le, nat_lt, Bool, false, not, ◌&&◌, ◌||◌}
 use Rattle.std.specs.Prelude.{if◌then◌else◌, List, [], ◌∷◌, Option, Some}
 use Rattle.std.specs.List.{list_any}

@@ -50,8 +50,8 @@ pub record LessLateIsMoreAccepted (less more : Option ℕ) : Type 0 where
       → late_at_end (with_slack less h) moment (record { model = w; duties = few }) ≡ None
       → late_at_end (with_slack more h) moment (record { model = w; duties = many }) ≡ None
 
--- what is kept after a step that isn't refused depends on the slack in credits alone: a segment takes one that is as old
--- or older with a greater slack, so at least as many are left
+-- what is kept after a step that isn't refused depends on the slack in credits alone: with a greater slack, a segment
+-- takes one that is as old or older, so at least as many are left
 abbrev pub SlackIsHardlyNoted : Type 0
 SlackIsHardlyNoted =
     (h : Header) (less more moment : ℕ) (w : World tcp_shape) (s : Observation) (few many : Duties) → less ≤ more

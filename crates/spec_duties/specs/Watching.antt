@@ -37,8 +37,8 @@ pub use Rattle.spec_duties.specs.declared.tables.Built.{Built}
 
 -- what each endpoint owes, by its place; each listener, by its place; since when each segment in an inbox waits, by its
 -- line; and the segments that were built, by their numbers. What left an inbox or was sent leaves None in its place.
--- For the stricter duties of version 6, the same of endpoints and of segments that were built, the credits of each host's
--- endpoints, and the calls that wait
+-- For the stricter duties of version 6, the same of endpoints and of segments that were built, the credits of each
+-- host's endpoints, and the calls that wait
 pub record Duties : Type 0 where
   pub owed : Both (List (ℕ × Owed))
   pub listening : Both (List (ℕ × Listening))

@@ -23,9 +23,7 @@ use crate::host_core::HostCore;
 use crate::send_states::{Before, Seen};
 use crate::tick::Tick;
 use crate::transit::Flying;
-use case_forms::{
-    OutOfMemory, Ports, Recovery, RecoveryChange, RtoChoice, TakeChoice, TakenLine,
-};
+use case_forms::{OutOfMemory, Ports, Recovery, RecoveryChange, RtoChoice, TakeChoice, TakenLine};
 use endpoint::is_past_lifetime;
 use recording_parts::{choice_if, is_own, with_bytes};
 use spec_step::Label;

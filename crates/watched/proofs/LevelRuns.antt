@@ -96,7 +96,8 @@ built_same a b after moment (Some t) (built_change.Builds number) built = rw (me
 built_same a b after moment o (built_change.Sends number) built = refl
 
 strict_same : (s : Sampling) (event : Event) (a b : ℕ) (before after : View) (moment : ℕ) (acknowledged : Option ℕ) (keeps_alive : Bool) (o : StrictOwed)
-    → strict_after s event (view_with a before) (view_with b after) moment acknowledged keeps_alive o ≡ strict_after s event before after moment acknowledged keeps_alive o
+    → strict_after s event (view_with a before) (view_with b after) moment acknowledged keeps_alive o
+    ≡ strict_after s event before after moment acknowledged keeps_alive o
 strict_same s Opens a b before after moment acknowledged keeps_alive o = refl
 strict_same s (Calls abort) a b before after moment acknowledged keeps_alive o = refl
 strict_same s (Processes length rst) a b before after moment acknowledged keeps_alive o = refl
@@ -434,7 +435,8 @@ end_by j h moment k = by h.slack
     late h slack w = any_call (is_unanswered_late h slack moment w k.duties.waits) k.duties.waits.threads
 
     by : (o : Option ℕ)
-        → on o None (λ slack. with slack (lates_of_all h slack moment k.duties (world_judged j h k.model)) (late (header_by j h) slack (world_judged j h k.model)))
+        → on o None (λ slack. with slack (lates_of_all h slack moment k.duties (world_judged j h k.model))
+        (late (header_by j h) slack (world_judged j h k.model)))
         ≡ on o None (λ slack. with slack (lates_of_all h slack moment k.duties k.model) (late h slack k.model))
     by None = refl
     by (Some slack) =

@@ -168,7 +168,8 @@ module _ (slack : Option ℕ) (h : Header) where
   pending_shown : (w : World tcp_shape) (answer : Answer) (call : Call) → observe_pending g w answer call ≡ observe_pending h w answer call
   pending_shown w answer call = rw (aim_same w.hosts (aim call)) refl
 
-  called_shown : (w : World tcp_shape) (thread : ℕ) (answer : Answer) (u : Turn tcp_shape) → observe_effect g w thread answer u ≡ observe_effect h w thread answer u
+  called_shown : (w : World tcp_shape) (thread : ℕ) (answer : Answer) (u : Turn tcp_shape)
+      → observe_effect g w thread answer u ≡ observe_effect h w thread answer u
   called_shown w thread answer Idle = refl
   called_shown w thread answer (Called call) =
       opening_same w w (same_self w) g h (aim_same w.hosts) thread answer call refl (pending_shown w answer call)

@@ -30,8 +30,10 @@ use Rattle.spec_duties.specs.declared.answering.OpenCall.{OpenCall}
 use Rattle.spec_duties.specs.declared.answering.SocketChange.{SocketChange}
 use Rattle.spec_duties.specs.declared.answering.Waitable.{Waitable}
 use Rattle.spec_duties.specs.declared.answering.Waiting.{Waiting}
-use Rattle.spec_duties.specs.Answering.{answering, any_call, call_for, closing, is_again, is_unanswered_late, judged_call, judged_socket, listener_seen, may_wait}
-use Rattle.spec_duties.specs.Answering.{not_ready, owed_at_end, ready_for, renewed, renewed_at, seen_again, socket_changing, socket_given, socket_noted, touched_seen}
+use Rattle.spec_duties.specs.Answering.{answering, any_call, call_for, closing, is_again, is_unanswered_late}
+use Rattle.spec_duties.specs.Answering.{judged_call, judged_socket, listener_seen, may_wait}
+use Rattle.spec_duties.specs.Answering.{not_ready, owed_at_end, ready_for, renewed, renewed_at, seen_again}
+use Rattle.spec_duties.specs.Answering.{socket_changing, socket_given, socket_noted, touched_seen}
 use Rattle.spec_duties.specs.Answering.{unanswered_since, waitable, waiting_on, waits_after, with_ready}
 use Rattle.spec_duties.specs.Deadlines.{is_late}
 use Rattle.spec_duties.specs.Observations.{observe_open, observe_pending}

@@ -144,7 +144,9 @@ pub(crate) fn recovery(
     moment: u64,
 ) -> Result<(), OutOfMemory> {
     if it.change == RecoveryChange::IsUndone {
-        return out.push_str("no endpoint of the model detects a spurious recovery (RFC 3522, 5682)\n");
+        return out.push_str(
+            "no endpoint of the model detects a spurious recovery (RFC 3522, 5682)\n",
+        );
     }
     let (profile, values) = (endpoint.control.profile, &endpoint.control.values);
     if !profile.counts_duplicates() {

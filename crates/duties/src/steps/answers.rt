@@ -167,7 +167,8 @@ impl Duties {
         }
     }
 
-    /// Notes that a step returns a socket number for this target. If memory runs out, the duties are of no use any more.
+    /// Notes that a step returns a socket number for this target. If memory runs out, the duties are of no use any
+    /// more.
     pub fn note_given(
         &mut self,
         moment: u64,

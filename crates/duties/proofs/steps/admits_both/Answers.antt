@@ -13,4 +13,5 @@ returns-in-Ok c =
 pub returns-in-Err : goal.returns-in-Err
 returns-in-Err c =
     sym (first_broken-append_some (late_rules c.args.lates)
-    (limit_rules c.args.header.now c.args.touched.now c.args.limited.counts c.args.limited.lacks c.args.limited.due c.args.owed.now) c.in-Err.rule (sym c.in-Err.ensures))
+    (limit_rules c.args.header.now c.args.touched.now c.args.limited.counts c.args.limited.lacks c.args.limited.due c.args.owed.now)
+    c.in-Err.rule (sym c.in-Err.ensures))
