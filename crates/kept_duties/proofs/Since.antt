@@ -13,6 +13,7 @@ use Rattle.case_forms.specs.declared.steps.Witness.{Witness}
 use Rattle.case_forms.specs.declared.trace.Header.{Header}
 use Rattle.case_forms.specs.declared.trace.Trace.{Trace}
 use Rattle.verdict.specs.Rules.{first_broken}
+use Rattle.verdict.specs.declared.rule.Rule.TheVariants as rules
 use Rattle.verdict.proofs.RuleLemmas.{none_all}
 use Rattle.interval_order.specs.Orders.{last_moment}
 use Rattle.interval_order.specs.Placed.{Placed}
@@ -25,7 +26,10 @@ use Rattle.spec_tcp_laws.specs.Consequences.{find}
 use Rattle.spec_tcp_laws.proofs.Rules.{neither}
 use Rattle.spec_tcp_laws.proofs.Runs.{Steady, later_step, steady_start, steady_step}
 use Rattle.spec_duties.specs.Cases.{Known, first_known}
-use Rattle.spec_duties.specs.End.{either, end_rules, lates_at, lates_from, lates_of_all, lates_of_host}
+use Rattle.spec_duties.specs.Answering.{any_call, is_unanswered_late}
+use Rattle.spec_duties.specs.End.{any_unsent, either, end_rules, is_brought_late, lates_at, lates_from, lates_of_all}
+use Rattle.spec_duties.specs.End.{lates_of_host}
+use Rattle.spec_duties.specs.Strict.{with_brought}
 use Rattle.spec_duties.specs.Owed as owed
 use Rattle.spec_duties.specs.Owed.{late_rules, lates_of, none_late, owed_after}
 use Rattle.spec_duties.specs.Observations.{observe}
@@ -324,8 +328,12 @@ module _ (t : Trace) (w : Witness) (slack : ℕ) (r : Run t.header slack (length
             let last = last_moment (moves w.steps) in
             let k = known_before t w (length w.steps) in
             let e = still.there in
-            let none = wait.rules _ (unbrought _ (lates_of_all t.header slack last k.duties k.model)
-            (without_last _ _ (none_all (end_rules t.header slack last k.duties k.model) late).1.1)) in
+            let brought = any_unsent (is_brought_late slack last) k.duties.unsent in
+            let all = lates_of_all t.header slack last k.duties k.model in
+            let none = wait.rules _ (unbrought brought all
+            (without_last (with_brought brought all)
+            (rules.AnswerLate, any_call (is_unanswered_late t.header slack last k.model k.duties.waits) k.duties.waits.threads)
+            (none_all (end_rules t.header slack last k.duties k.model) late).1.1)) in
             let here = sym (same last k.duties None me.host me.number (view_of e.0))
             ∙ sel_all sel wait.either t.header slack last k.duties k.model none me e.0 e.1 in
             let open' : Is (view_of e.0) ≡ false =
