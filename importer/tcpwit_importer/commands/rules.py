@@ -22,7 +22,7 @@ SECTIONS = {
     "sample": "6298, 3",
     "timer-off": "6298, 5.1, 5.2; 9293, 3.6.1, 3.8.3, 3.8.6.1",
     "timer-early": "6298, 2, 4, 5; 9293, 3.6.1, 3.8.6.1",
-    "recovery": "5681, 2, 3.2 (steps 2 to 4)",
+    "recovery": "5681, 2, 3.2 (steps 2 to 4); 4015, 3.2",
     "scale-unread": "7323, 2.2 (the rule is specific to this profile)",
     "dropped": "9293, 3.10.7; 5961, 3.2",
     "discarded": "9293, 3.6.1, 3.10.7.4",
