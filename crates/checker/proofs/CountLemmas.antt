@@ -25,7 +25,7 @@ use Rattle.interval_order.proofs.OrderLemmas.{order_more, order_first}
 use Rattle.spec_network.specs.HostSteps.{start}
 use Rattle.spec_tcp.specs.Machine.{tcp, tcp_shape}
 use Rattle.spec_tcp_laws.proofs.Rules.{not_false, and_false, neither}
-use Rattle.spec_duties.specs.Cases.{Known, first_known}
+use Rattle.spec_cases.specs.Cases.{Known, first_known}
 use Rattle.checker.specs.Seen.{move_of, moves, act_of, take_of}
 use Rattle.checker.specs.Verdicts.{act_rules, broken, next_world, takes_line, verdict}
 use Rattle.checker.specs.Explains.{IsYes}

@@ -17,7 +17,7 @@ use Rattle.line_fields.specs.declared.fault.TextFault.{TextFault}
 use Rattle.line_fields.specs.Left.{Yields}
 use Rattle.trace_reader.specs.TraceLeft.{lines_left}
 use Rattle.interval_order.specs.Orders.{Order, order_of}
-use Rattle.spec_duties.specs.Cases.{Watched as Progress, late_at_end, start, first_known}
+use Rattle.spec_cases.specs.Cases.{Watched as Progress, late_at_end, start, first_known}
 use Rattle.checker.specs.declared.case.CaseFault.{CaseFault}
 use Rattle.checker.specs.declared.case.CaseFault.TheVariants as faults
 use Rattle.checker.specs.declared.turns.StepCounts.{StepCounts}

@@ -14,7 +14,7 @@ use Rattle.interval_order.specs.OrderRules.{order_rules}
 use Rattle.spec_network.specs.Hosts.{Stamped, Step as StepOf}
 use Rattle.spec_tcp.specs.Machine.{tcp_shape}
 use Rattle.spec_tcp.specs.Steps.{hidden_step, label_step}
-use Rattle.spec_duties.specs.Cases.{Known, Watched as Progress, after, case_rules}
+use Rattle.spec_cases.specs.Cases.{Known, Watched as Progress, after, case_rules}
 use Rattle.checker.specs.Seen.{move_of, take_of}
 use Rattle.checker.specs.Verdicts.{act_rules}
 use Rattle.checker.specs.Kept.{held_act, kept_broken, kept_progress}

@@ -18,7 +18,7 @@ use Rattle.spec_network.proofs.Turns.{turns}
 use Rattle.spec_tcp.specs.Machine.{tcp, tcp_shape}
 use Rattle.spec_tcp_laws.specs.Judging.{extent, header_by}
 use Rattle.spec_tcp_laws.proofs.JudgedRuns.{judged_start, lawful_by}
-use Rattle.spec_duties.specs.Cases.{Dutiful, Known, first_known, known_after_all, late_at_end}
+use Rattle.spec_cases.specs.Cases.{Dutiful, Known, first_known, known_after_all, late_at_end}
 use Rattle.watched.proofs.LevelRuns.{dutiful_by, end_by, known_by}
 use Rattle.checker.specs.Explains.{Explains, IsYes}
 use Rattle.checker.specs.Judges.{Counts}

@@ -23,7 +23,7 @@ use Rattle.interval_order.proofs.OrderLemmas.{held_is}
 use Rattle.spec_network.specs.Hosts.{Stamped, Step as StepOf}
 use Rattle.spec_tcp.specs.Machine.{tcp_shape}
 use Rattle.spec_tcp.specs.Steps.{label_step, line_step, step_of}
-use Rattle.spec_duties.specs.Cases.{Known, Watched as Progress, after, asked_rules, forget}
+use Rattle.spec_cases.specs.Cases.{Known, Watched as Progress, after, asked_rules, forget}
 use Rattle.watched.proofs.CaseLemmas.{rules-forget, known-forgets}
 use Rattle.checker.specs.Seen.{moves, move_of, act_of}
 use Rattle.checker.specs.Verdicts.{act_rules, act_after, broken}

@@ -26,9 +26,9 @@ use Rattle.spec_tcp.specs.Machine.{tcp, tcp_shape}
 use Rattle.spec_tcp_laws.specs.Ascending.{rule_number}
 use Rattle.spec_tcp_laws.proofs.Rules.{at_most_to, both_true}
 use Rattle.duties.proofs.SlackLemmas.{dutiful_any, late_any, nothing_judged}
-use Rattle.spec_duties.specs.Cases.{Dutiful, Known, first_known, known_after_all, late_at_end, watch_rules}
+use Rattle.spec_cases.specs.Cases.{Dutiful, Known, first_known, known_after_all, late_at_end, watch_rules}
 use Rattle.spec_duties.specs.Observations.{observe}
-use Rattle.spec_duties.specs.Slack.{AtMost, with_slack}
+use Rattle.spec_cases.specs.Slack.{AtMost, with_slack}
 use Rattle.watched.proofs.AscendLemmas.{rules_top, tops}
 use Rattle.watched.proofs.SlackRuns.{dutiful_with, end_with, lawful_with}
 use Rattle.checker.specs.Explains.{Explains}

@@ -26,7 +26,7 @@ use Rattle.spec_network.specs.Hosts.{Stamped}
 use Rattle.spec_network.specs.HostSteps.{start}
 use Rattle.spec_tcp.specs.Machine.{tcp, tcp_shape}
 use Rattle.spec_tcp.specs.Steps.{label_step}
-use Rattle.spec_duties.specs.Cases.{Known, first_known}
+use Rattle.spec_cases.specs.Cases.{Known, first_known}
 use Rattle.checker.specs.Seen.{move_of, moves, act_of}
 use Rattle.checker.specs.Verdicts.{act_rules, act_after, broken, next_world, late_after, verdict, verdict_from, verdict_left, refused_or}
 use Rattle.checker.specs.Again.{placeless, without_spans}

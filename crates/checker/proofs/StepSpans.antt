@@ -19,7 +19,7 @@ use Rattle.interval_order.specs.Orders.{last_moment, Move, order_of, unplaced}
 use Rattle.interval_order.specs.OrderRules.{order_rules}
 use Rattle.spec_network.specs.HostSteps.{start}
 use Rattle.spec_tcp.specs.Machine.{tcp, tcp_shape}
-use Rattle.spec_duties.specs.Cases.{late_at_end, Known, first_known}
+use Rattle.spec_cases.specs.Cases.{late_at_end, Known, first_known}
 use Rattle.checker.specs.Seen.{move_of, moves, act_of}
 use Rattle.checker.specs.Verdicts.{act_rules, broken, next_world, takes_line, late_after, verdict, verdict_from, verdict_left, refused_or}
 use Rattle.checker.specs.Again.{nowhere}

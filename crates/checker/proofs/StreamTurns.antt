@@ -21,7 +21,7 @@ use Rattle.line_fields.specs.Left.{Yields, in_front}
 use Rattle.interval_order.specs.Orders.{Order, last_moment, order_after, unplaced}
 use Rattle.interval_order.specs.Later.{TakesBelow, AreLater, with_lines, late_rule}
 use Rattle.interval_order.proofs.LaterLemmas.{order_with}
-use Rattle.spec_duties.specs.Cases.{Known, Watched as Progress, forget, first_known, known_after_all, late_at_end}
+use Rattle.spec_cases.specs.Cases.{Known, Watched as Progress, forget, first_known, known_after_all, late_at_end}
 use Rattle.watched.proofs.ForgetLemmas.{late-forget}
 use Rattle.checker.specs.Seen.{move_of, moves}
 use Rattle.checker.specs.Kept.{kept_broken, kept_progress}

@@ -10,7 +10,7 @@ use Rattle.line_fields.specs.declared.fault.TextFault.{TextFault}
 use Rattle.line_fields.specs.Left.{Yields}
 use Rattle.interval_order.specs.Orders.{Move, Order, Take, order_after, held_after}
 use Rattle.interval_order.specs.Later.{with_lines}
-use Rattle.spec_duties.specs.Cases.{Watched as Progress}
+use Rattle.spec_cases.specs.Cases.{Watched as Progress}
 use Rattle.checker.specs.declared.case.CaseFault.{CaseFault}
 use Rattle.checker.specs.declared.case.CaseFault.TheVariants as faults
 use Rattle.checker.specs.declared.ahead.Ahead.{Ahead}

@@ -20,7 +20,7 @@ use Rattle.spec_network.specs.HostSteps.{start, Lawful}
 use Rattle.spec_network.specs.HostRules.{step_rules}
 use Rattle.spec_network.proofs.Turns.{turns}
 use Rattle.spec_tcp.specs.Machine.{tcp, tcp_shape}
-use Rattle.spec_duties.specs.Cases.{Known, first_known, Dutiful, known_after_all, watch_rules}
+use Rattle.spec_cases.specs.Cases.{Known, first_known, Dutiful, known_after_all, watch_rules}
 use Rattle.checker.specs.Seen.{move_of, moves, act_of, stamped}
 use Rattle.checker.specs.Verdicts.{act_rules, act_after, broken, late_after, next_world, verdict, verdict_from, verdict_left, refused_or}
 use Rattle.checker.specs.Explains.{Explains, IsYes}

@@ -9,7 +9,7 @@ use Rattle.spec_network.specs.Hosts.{Idle}
 use Rattle.spec_network.specs.HostSteps.{start, Lawful}
 use Rattle.spec_network.specs.Turns.{Turns}
 use Rattle.spec_tcp.specs.Machine.{tcp}
-use Rattle.spec_duties.specs.Cases.{Dutiful, first_known, known_after_all}
+use Rattle.spec_cases.specs.Cases.{Dutiful, first_known, known_after_all}
 use Rattle.checker.specs.Seen.{moves, stamped}
 use Rattle.checker.specs.Verdicts.{late_after}
 

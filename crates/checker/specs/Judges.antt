@@ -10,7 +10,7 @@ use Rattle.verdict.specs.declared.report.Verdict.{Verdict}
 use Rattle.verdict.specs.declared.report.Verdict.TheVariants.{Yes, No}
 use Rattle.interval_order.specs.Orders.{unplaced}
 use Rattle.verdict.specs.Rules.{first_broken}
-use Rattle.spec_duties.specs.Cases.{first_known, known_after_all}
+use Rattle.spec_cases.specs.Cases.{first_known, known_after_all}
 use Rattle.spec_tcp_laws.specs.Ascending.{IsLeastBroken}
 use Rattle.checker.specs.Seen.{moves, stamped}
 use Rattle.checker.specs.Verdicts.{all_rules, late_after, takes_line, line_named}

@@ -10,7 +10,7 @@ use Rattle.spec_network.specs.Hosts.{Stamped}
 use Rattle.spec_tcp.specs.Machine.{tcp_shape}
 use Rattle.interval_order.specs.Orders.{Order, held_line}
 use Rattle.interval_order.specs.OrderRules.{order_rules}
-use Rattle.spec_duties.specs.Cases.{Known, Watched as Progress, after}
+use Rattle.spec_cases.specs.Cases.{Known, Watched as Progress, after}
 use Rattle.checker.specs.Seen.{act_by, move_of}
 use Rattle.checker.specs.Verdicts.{act_rules}
 

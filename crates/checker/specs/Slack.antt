@@ -5,7 +5,7 @@ use Rattle.case_forms.specs.declared.trace.Trace.{Trace}
 use Rattle.verdict.specs.declared.rule.Rule.{Rule}
 use Rattle.verdict.specs.declared.report.Verdict.TheVariants.{Yes, No}
 use Rattle.spec_tcp_laws.specs.Ascending.{rule_number}
-use Rattle.spec_duties.specs.Slack.{AtMost, with_slack}
+use Rattle.spec_cases.specs.Slack.{AtMost, with_slack}
 use Rattle.checker.specs.Explains.{Explains}
 use Rattle.checker.specs.Verdicts.{verdict}
 

@@ -17,7 +17,7 @@ use Rattle.counted.specs.Counting.{one_more}
 use Rattle.line_fields.specs.declared.fault.TextFault.{TextFault}
 use Rattle.interval_order.specs.Orders.{Order, order_of, order_after}
 use Rattle.interval_order.specs.Later.{TakesBelow, AreLater, is_among, late_rule}
-use Rattle.spec_duties.specs.Cases.{Known, Watched as Progress, forget, first_known, known_after_all}
+use Rattle.spec_cases.specs.Cases.{Known, Watched as Progress, forget, first_known, known_after_all}
 use Rattle.checker.specs.declared.case.CaseFault.{CaseFault}
 use Rattle.checker.specs.declared.case.CaseFault.TheVariants as faults
 use Rattle.checker.specs.Seen.{move_of, moves, stamped}

@@ -11,7 +11,7 @@ use Rattle.line_fields.specs.Left.{Yields}
 use Rattle.interval_order.specs.Orders.{Order}
 use Rattle.endpoint_state.specs.declared.fault.StepFault.{StepFault}
 use Rattle.spec_step.specs.Faults.{IfBroken}
-use Rattle.spec_duties.specs.Cases.{Watched as Progress}
+use Rattle.spec_cases.specs.Cases.{Watched as Progress}
 use Rattle.checker.specs.declared.turns.StepCounts.{StepCounts}
 use Rattle.checker.specs.Verdicts.{line_named}
 use Rattle.checker.specs.Ahead.{Passes}

@@ -19,7 +19,7 @@ use Rattle.interval_order.specs.Orders.{last_moment, unplaced, order_of}
 use Rattle.interval_order.specs.OrderRules.{order_rules}
 use Rattle.spec_network.specs.Hosts.{Stamped}
 use Rattle.spec_tcp.specs.Machine.{tcp_shape}
-use Rattle.spec_duties.specs.Cases.{Known, case_rules, known_after, first_known, late_at_end}
+use Rattle.spec_cases.specs.Cases.{Known, case_rules, known_after, first_known, late_at_end}
 use Rattle.checker.specs.Seen.{move_of, moves, act_of}
 
 -- the model's rules of a step, and the whole world after it

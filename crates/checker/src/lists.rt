@@ -8,7 +8,7 @@ ghost use Rattle.std.specs.List.{All};
 ghost use Rattle.case_forms.specs.Traces.{first_event_line, IsRecorded, IsTrace};
 ghost use Rattle.case_forms.specs.Witnesses.{IsWithinLimits, IsWitness};
 ghost use Rattle.interval_order.specs.Orders.{order_of};
-ghost use Rattle.spec_duties.specs.Cases.{first_known};
+ghost use Rattle.spec_cases.specs.Cases.{first_known};
 ghost use Rattle.checker.specs.Verdicts.{verdict, verdict_from};
 ghost use Rattle.checker.specs.Meaning.{Means};
 

@@ -8,7 +8,7 @@ ghost use Rattle.verdict.specs.Rules.{first_broken};
 ghost use Rattle.spec_tcp.specs.Bounds.{most_steps};
 ghost use Rattle.spec_step.specs.Acts.{IsSmall, step_hidden};
 ghost use Rattle.spec_step.specs.Faults.{IfBroken};
-ghost use Rattle.spec_duties.specs.Cases.{after, case_rules};
+ghost use Rattle.spec_cases.specs.Cases.{after, case_rules};
 ghost use Rattle.checker.specs.Seen.{move_of};
 ghost use Rattle.checker.specs.Verdicts.{takes_line, line_named};
 ghost use Rattle.checker.specs.Kept.{kept_broken, kept_progress};

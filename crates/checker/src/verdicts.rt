@@ -12,7 +12,7 @@ ghost use Rattle.case_forms.specs.Traces.{first_event_line};
 ghost use Rattle.counted.specs.Counting.{failures_of, one_more};
 ghost use Rattle.line_fields.specs.declared.fault.TextFault.{TextFault};
 ghost use Rattle.line_fields.specs.Left.{Yields};
-ghost use Rattle.spec_duties.specs.Cases.{late_at_end};
+ghost use Rattle.spec_cases.specs.Cases.{late_at_end};
 ghost use Rattle.spec_tcp.specs.Bounds.{most_steps};
 ghost use Rattle.checker.specs.Verdicts.{verdict_left};
 ghost use Rattle.checker.specs.Ahead.{source_ahead, line_ahead, left_ahead, IsAhead, IsInStep};

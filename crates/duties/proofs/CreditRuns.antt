@@ -6,7 +6,7 @@ use Rattle.std.specs.List.{AllByRecursion}
 use Rattle.std.proofs.lemmas.Bool.Decides.{nat_tests}
 use Rattle.std.proofs.lemmas.Option.{none-some, same_Some}
 use Rattle.spec_duties.specs.Credits.{credit_of, earned, has_credit, is_credit_from, spent}
-use Rattle.spec_duties.specs.Slack.{AreInOrder, credits_left}
+use Rattle.spec_cases.specs.Slack.{AreInOrder, credits_left}
 
 -- one counts or doesn't
 abbrev pub one_if : Bool → ℕ

@@ -20,7 +20,7 @@ use Rattle.spec_duties.specs.Acknowledge.{acknowledge_due}
 use Rattle.spec_duties.specs.Answering.{Waits, answer_due, answer_since, answered_since, any_call, is_unanswered_late, owed_at_end}
 use Rattle.spec_duties.specs.declared.answering.CallChange.{CallChange}
 use Rattle.spec_duties.specs.declared.answering.OpenCall.{OpenCall}
-use Rattle.spec_duties.specs.Cases.{Known, Dutiful, judged_rules, known_after, late_at_end, noted_by}
+use Rattle.spec_cases.specs.Cases.{Known, Dutiful, judged_rules, known_after, late_at_end, noted_by}
 use Rattle.spec_duties.specs.Credits.{credit_of, earliest_credit, has_credit, spent}
 use Rattle.spec_duties.specs.Deadlines.{is_late}
 use Rattle.spec_duties.specs.Excess.{is_excess}
@@ -31,7 +31,7 @@ use Rattle.spec_duties.specs.Owed.{lates_of, lates_of_open, none_late}
 use Rattle.spec_duties.specs.Probe.{probing_due}
 use Rattle.spec_duties.specs.Reset.{reset_since}
 use Rattle.spec_duties.specs.Observations.{observe}
-use Rattle.spec_duties.specs.Slack.{AtMost, HasMoreCredits, LessLateIsMoreAccepted, NothingIsJudged, SlackIsHardlyNoted, AreInOrder, credits_left, with_slack}
+use Rattle.spec_cases.specs.Slack.{AtMost, HasMoreCredits, LessLateIsMoreAccepted, NothingIsJudged, SlackIsHardlyNoted, AreInOrder, credits_left, with_slack}
 use Rattle.spec_duties.specs.Start.{start_due}
 use Rattle.spec_duties.specs.Strict.{coarse_expiry_due, coarse_probing_due, strict_lates, with_brought}
 use Rattle.spec_duties.specs.Views.{view_of}

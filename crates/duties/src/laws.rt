@@ -1,7 +1,7 @@
 //! The slack: with a greater one more is accepted, and without one everything is.
 
 ghost use Rattle.std.specs.Prelude.{Option, ℕ};
-ghost use Rattle.spec_duties.specs.Slack.{AtMost, LessLateIsMoreAccepted, NothingIsJudged, SlackIsHardlyNoted};
+ghost use Rattle.spec_cases.specs.Slack.{AtMost, LessLateIsMoreAccepted, NothingIsJudged, SlackIsHardlyNoted};
 
 /// Without a slack no duty refuses a step, and none is late at the end.
 pub fn nothing_is_judged()

@@ -29,6 +29,9 @@ pub fn view_of(endpoint: &Endpoint) -> View
         rcv_nxt: endpoint.rcv_nxt(),
         rcv_adv: endpoint.window.rcv_adv,
         congestion_edge: una as u128 + endpoint.control.send_edge(0) as u128,
+        smss: endpoint.control.values.smss,
+        dup: endpoint.control.values.dup,
+        fast: endpoint.control.values.fast,
         timers: endpoint.timers,
         backoffs: endpoint.backoffs,
     }
@@ -52,6 +55,9 @@ pub fn unborn() -> View
         rcv_nxt: 0,
         rcv_adv: 0,
         congestion_edge: 0,
+        smss: 0,
+        dup: 0,
+        fast: false,
         timers: Timers::start(),
         backoffs: 0,
     }

@@ -27,7 +27,7 @@ use Rattle.spec_tcp.specs.Same.{same_word}
 use Rattle.spec_tcp_laws.proofs.Rules.{is_not, map_or_true}
 use Rattle.spec_tcp_laws.proofs.Takes.{taker_there}
 use Rattle.spec_duties.specs.Acknowledge.{acknowledged_after, answered_lately, longest_delay}
-use Rattle.spec_duties.specs.Cases.{Known}
+use Rattle.spec_cases.specs.Cases.{Known}
 use Rattle.spec_duties.specs.Dropped.{answering_breaks, asks, has_content, is_ack_range, is_next, is_number, is_unacceptable, reads_old_numbers, taking_breaks}
 use Rattle.spec_duties.specs.End.{end_rules}
 use Rattle.spec_duties.specs.Owed.{owed_after}

@@ -16,7 +16,7 @@ use Rattle.spec_network.specs.Hosts.{Stamped, World}
 use Rattle.spec_network.specs.Tables.{Made, pick, waiting}
 use Rattle.spec_tcp.specs.Machine.{tcp, tcp_shape}
 use Rattle.spec_tcp.specs.declared.endpoint.Emission.{Emission}
-use Rattle.spec_duties.specs.Cases.{Known, first_known}
+use Rattle.spec_cases.specs.Cases.{Known, first_known}
 use Rattle.spec_duties.specs.Deadlines.{is_late}
 use Rattle.spec_duties.specs.Observations.{observe, view_in}
 use Rattle.spec_duties.specs.Watching.{Duties, builds_mere_ack, built_after, built_by, counts_now, duty_rules, sent_late}

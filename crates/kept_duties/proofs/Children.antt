@@ -25,7 +25,7 @@ use Rattle.spec_tcp.specs.declared.endpoint.EndpointId.{EndpointId}
 use Rattle.spec_tcp_laws.specs.Consequences.{find}
 use Rattle.spec_tcp_laws.proofs.Rules.{both_true, map_or_true, number_same}
 use Rattle.spec_tcp_laws.proofs.Runs.{later_step}
-use Rattle.spec_duties.specs.Cases.{Known}
+use Rattle.spec_cases.specs.Cases.{Known}
 use Rattle.spec_duties.specs.End.{end_rules}
 use Rattle.spec_duties.specs.Reset.{aborts, reset_since, sends_reset}
 use Rattle.spec_duties.specs.Observations.{observe, view_in}

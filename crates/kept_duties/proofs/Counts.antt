@@ -42,7 +42,7 @@ use Rattle.spec_tcp.specs.declared.endpoint.EndpointId.{EndpointId}
 use Rattle.spec_tcp_laws.specs.Consequences.{find}
 use Rattle.spec_tcp_laws.proofs.Rules.{both_true, host_same, is_not, map_or_true, number_same}
 use Rattle.spec_tcp_laws.proofs.Runs.{later_step}
-use Rattle.spec_duties.specs.Cases.{Dutiful, Known, first_known}
+use Rattle.spec_cases.specs.Cases.{Dutiful, Known, first_known}
 use Rattle.spec_duties.specs.Excess.{answers_after, is_arrival, is_excess, is_listen, is_mere_ack, one_more}
 use Rattle.spec_duties.specs.Owed.{once_closed, owed_after, owed_open}
 use Rattle.spec_duties.specs.Observations.{at_place, at_sender, sending_of, observe, unseen, view_in}

@@ -15,7 +15,7 @@ use Rattle.spec_network.specs.Hosts.{Stamped, World}
 use Rattle.spec_tcp.specs.Machine.{tcp_shape}
 use Rattle.spec_tcp.specs.declared.endpoint.EndpointId.{EndpointId}
 use Rattle.spec_tcp_laws.proofs.Rules.{both_true, not_false, not_true, number_same, zero_from}
-use Rattle.spec_duties.specs.Cases.{Known}
+use Rattle.spec_cases.specs.Cases.{Known}
 use Rattle.spec_duties.specs.End.{end_rules}
 use Rattle.spec_duties.specs.Expire.{expiry_due, has_expiry_due, opened_after}
 use Rattle.spec_duties.specs.Owed.{lates_of, owed_after}

@@ -12,7 +12,7 @@ use Rattle.spec_network.specs.Hosts.{Stamped, World}
 use Rattle.spec_network.specs.Tables.{pick, waiting}
 use Rattle.spec_tcp.specs.Machine.{tcp_shape}
 use Rattle.spec_tcp.specs.declared.endpoint.Emission.{Emission}
-use Rattle.spec_duties.specs.Cases.{Known, first_known}
+use Rattle.spec_cases.specs.Cases.{Known, first_known}
 use Rattle.spec_duties.specs.Deadlines.{is_late}
 use Rattle.spec_duties.specs.End.{first_waiting}
 use Rattle.spec_duties.specs.Observations.{observe}

@@ -21,7 +21,7 @@ use Rattle.spec_network.specs.Tables.{on}
 use Rattle.spec_tcp.specs.Machine.{tcp_shape}
 use Rattle.spec_tcp.specs.declared.endpoint.EndpointId.{EndpointId}
 use Rattle.spec_tcp_laws.proofs.Rules.{both_true, not_false, not_true, number_same}
-use Rattle.spec_duties.specs.Cases.{Known}
+use Rattle.spec_cases.specs.Cases.{Known}
 use Rattle.spec_duties.specs.End.{end_rules}
 use Rattle.spec_duties.specs.Owed.{lates_of, once_closed, owed_after, owed_open}
 use Rattle.spec_duties.specs.Probe.{first_probing, greatest_factor, is_probe, next_probe_due, probing_due, still_probing}

@@ -14,7 +14,7 @@ use Rattle.spec_tcp.specs.Machine.{tcp_shape}
 use Rattle.spec_tcp.specs.Makes.Payload.{making_length}
 use Rattle.spec_tcp.specs.declared.endpoint.EndpointId.{EndpointId}
 use Rattle.spec_tcp_laws.proofs.Rules.{less_to}
-use Rattle.spec_duties.specs.Cases.{Known}
+use Rattle.spec_cases.specs.Cases.{Known}
 use Rattle.spec_duties.specs.Owed.{once_closed, owed_after, owed_open}
 use Rattle.spec_duties.specs.Resent.{again_after, begins_again, is_repeating, judges_repeats, judges_windows, passed_by, repeated_end}
 use Rattle.spec_duties.specs.Observations.{observe}

@@ -17,7 +17,7 @@ use Rattle.spec_network.specs.HostRules.{Permitted}
 use Rattle.spec_network.specs.HostSteps.{after, after_all, Lawful}
 use Rattle.spec_network.specs.Tables.{on}
 use Rattle.spec_tcp.specs.Machine.{tcp, tcp_shape}
-use Rattle.spec_duties.specs.Cases.{Known, Dutiful, first_known, known_after, known_after_all, watch_rules, with_waits}
+use Rattle.spec_cases.specs.Cases.{Known, Dutiful, first_known, known_after, known_after_all, watch_rules, with_waits}
 use Rattle.spec_duties.specs.Observations.{observe, view_in}
 use Rattle.spec_duties.specs.Watching.{duty_rules, duties_after}
 use Rattle.checker.specs.Seen.{act_of, stamped}

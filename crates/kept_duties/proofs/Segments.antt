@@ -19,7 +19,7 @@ use Rattle.spec_network.specs.HostSteps.{Lawful}
 use Rattle.spec_network.specs.Hosts.{Stamped}
 use Rattle.spec_network.specs.Tables.{on, waiting}
 use Rattle.spec_tcp.specs.Machine.{tcp, tcp_shape}
-use Rattle.spec_duties.specs.Cases.{Dutiful, Known, first_known, known_after_all, late_at_end}
+use Rattle.spec_cases.specs.Cases.{Dutiful, Known, first_known, known_after_all, late_at_end}
 use Rattle.spec_duties.specs.End as end
 use Rattle.spec_duties.specs.End.{end_rules, first_waiting}
 use Rattle.kept_duties.specs.Happens.{act_at, known_before}

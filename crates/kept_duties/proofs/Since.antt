@@ -25,7 +25,7 @@ use Rattle.spec_tcp.specs.declared.endpoint.EndpointId.{EndpointId}
 use Rattle.spec_tcp_laws.specs.Consequences.{find}
 use Rattle.spec_tcp_laws.proofs.Rules.{neither}
 use Rattle.spec_tcp_laws.proofs.Runs.{Steady, later_step, steady_start, steady_step}
-use Rattle.spec_duties.specs.Cases.{Known, first_known}
+use Rattle.spec_cases.specs.Cases.{Known, first_known}
 use Rattle.spec_duties.specs.Answering.{any_call, is_unanswered_late}
 use Rattle.spec_duties.specs.End.{any_unsent, either, end_rules, is_brought_late, lates_at, lates_from, lates_of_all}
 use Rattle.spec_duties.specs.End.{lates_of_host}

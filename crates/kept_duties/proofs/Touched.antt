@@ -45,7 +45,7 @@ use Rattle.spec_tcp.specs.declared.endpoint.SocketTarget.TheVariants.{ListenerAt
 use Rattle.spec_tcp_laws.specs.Consequences.{find}
 use Rattle.spec_tcp_laws.proofs.Rules.{on_cases}
 use Rattle.spec_tcp_laws.proofs.Runs.{Steady, later_step}
-use Rattle.spec_duties.specs.Cases.{Known}
+use Rattle.spec_cases.specs.Cases.{Known}
 use Rattle.spec_duties.specs.Dropped.{taking_breaks}
 use Rattle.spec_duties.specs.Excess.{is_excess}
 use Rattle.spec_duties.specs.Owed.{late_rules, lates_of, nothing, owed_after}

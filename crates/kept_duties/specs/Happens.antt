@@ -22,7 +22,7 @@ use Rattle.spec_tcp.specs.declared.endpoint.Emission.{Emission}
 use Rattle.spec_tcp.specs.declared.endpoint.EndpointId.{EndpointId}
 use Rattle.spec_tcp_laws.specs.Consequences.{find}
 use Rattle.spec_tcp_laws.specs.Runs.{world_at_end}
-use Rattle.spec_duties.specs.Cases.{Known, first_known, known_after_all}
+use Rattle.spec_cases.specs.Cases.{Known, first_known, known_after_all}
 use Rattle.spec_duties.specs.Observations.{observe}
 use Rattle.spec_duties.specs.Views.{unborn, view_of}
 use Rattle.spec_duties.specs.declared.events.Event.{Event}

@@ -7,10 +7,10 @@ use Rattle.std.proofs.lemmas.List.{take-append-drop, length-take, length-drop}
 use Rattle.segment.specs.declared.fault.SegFault.{SegFault}
 use Rattle.segment.specs.declared.fault.SegFault.TheVariants.{Short, Offset, OptionLength, TooLong, OutOfMemory}
 use Rattle.segment.specs.declared.fields.Segment.{Segment}
-use Rattle.segment.specs.Options.{Item, padding, option, IsNext, IsCut, HasNoItems}
+use Rattle.segment.specs.Options.{Item, padding, option, IsEnd, IsNext, IsCut, HasNoItems}
 use Rattle.segment.specs.Layout.{IsSegment, IsFault, HasHeader, max_len, header_len, options_of}
-use Rattle.segment.specs.Reading.{in_front, option_items, items_within, with_items, segment_of, Gives, ReadsByLayout}
-use Rattle.segment.proofs.Cuts.{HasNoItems-before, no_items}
+use Rattle.segment.specs.Reading.{in_front, option_items, items_within, items_of, with_items, segment_of, Gives, ReadsByLayout}
+use Rattle.segment.proofs.Cuts.{HasNoItems-before, IsCut-unique, no_items}
 use Rattle.segment.proofs.Unique.{IsSegment-unique, IsFault-no_segment}
 
 -- items are those of the bytes; where there are none, no items are
@@ -53,6 +53,29 @@ items_within-cuts (suc n) (kind ∷ rest) lt = cond_both (kind == 0) _ _ (IsCutt
     (record { fits = tt; parts = ap (λ (k : ℕ). k ∷ rest) is }) (items_within-cuts n rest (omega arith)))
     (λ not_one. option_items-cuts n kind rest (eqb-false kind 0 no_end) (eqb-false kind 1 not_one)
     (λ after shorter. items_within-cuts n after shorter) (omega arith)))
+
+-- what is found first of a list is first of its items
+pub items_end : (bytes : List ℕ) → IsEnd bytes → items_of bytes ≡ Some []
+items_end [] end = refl
+items_end (kind ∷ rest) end = rw (end) refl
+
+pub items_none : (bytes : List ℕ) → HasNoItems bytes → items_of bytes ≡ None
+items_none bytes none = by (items_of bytes) (items_within-cuts (suc (length bytes)) bytes (omega arith))
+  where
+    by : (o : Option (List Item)) → IsCutting bytes o → o ≡ None
+    by None cut = refl
+    by (Some items) cut = absurd (none items cut)
+
+pub items_next : (item : Item) (rest bytes : List ℕ) → IsNext item rest bytes → items_of bytes ≡ in_front item (items_of rest)
+items_next item rest bytes next = by (items_of rest) (items_within-cuts (suc (length rest)) rest (omega arith))
+  where
+    same : (items : List Item) (o : Option (List Item)) → IsCut (item ∷ items) bytes → IsCutting bytes o → o ≡ Some (item ∷ items)
+    same items None cut none = absurd (none (item ∷ items) cut)
+    same items (Some others) cut is = ap Some (IsCut-unique others (item ∷ items) bytes is cut)
+
+    by : (o : Option (List Item)) → IsCutting rest o → items_of bytes ≡ in_front item o
+    by None none = items_none bytes (HasNoItems-before item rest bytes next none)
+    by (Some items) cut = same items (items_of bytes) (rest, next, cut) (items_within-cuts (suc (length bytes)) bytes (omega arith))
 
 -- a segment is the bytes' own, and a fault their first
 abbrev IsOfBytes : List ℕ → Result Segment SegFault → Type 0

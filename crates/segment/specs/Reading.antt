@@ -1,5 +1,8 @@
 -- The segment or the first fault of bytes, found from left to right.
-use Rattle.std.specs.Prelude.{◌≡◌, ◌≢◌, ◌↔◌, ℕ, zero, suc, ◌+◌, ◌-◌, ◌==◌, ◌&&◌, ◌||◌, nat_le, nat_lt, if◌then◌else◌}
+use Rattle.std.specs.Prelude.{◌≡◌, ◌≢◌, ◌↔◌, ℕ, zero, suc, ◌+◌, ◌-◌, ◌==◌, Bool, false, ◌&&◌, ◌||◌, nat_le, nat_lt}
+use Rattle.std.specs.Prelude.{if◌then◌else◌}
+use Rattle.std.specs.List.{list_any}
+use Rattle.std.specs.Option.{option_map_or}
 use Rattle.std.specs.Prelude.{List, [], ◌∷◌, length, take, drop, Option, Some, None, Result, Ok, Err}
 use Rattle.segment.specs.declared.fault.SegFault.{SegFault}
 use Rattle.segment.specs.declared.fault.SegFault.TheVariants.{Short, Offset, OptionLength, TooLong, OutOfMemory}
@@ -29,6 +32,19 @@ items_within (suc n) (kind ∷ rest) =
     else if kind == 1 then in_front padding (items_within n rest)
     else option_items (items_within n) kind rest
 
+-- the items of a list of options, if it is one
+abbrev pub items_of : List ℕ → Option (List Item)
+items_of bytes = items_within (suc (length bytes)) bytes
+
+-- kind 4 without content: who sent this in its SYN reads selective acknowledgments (RFC 2018, 2)
+abbrev pub is_sack_permission : Item → Bool
+is_sack_permission padding = false
+is_sack_permission (option kind content) = kind == 4 && length content == 0
+
+-- the options of a segment's bytes permit them
+abbrev pub permits_sack : List ℕ → Bool
+permits_sack bytes = option_map_or (list_any is_sack_permission) (items_of (options_of bytes)) false
+
 -- the segment with these items, or a fault of the items or of the length
 abbrev pub with_items : List ℕ → Option (List Item) → Result Segment SegFault
 with_items bytes None = Err OptionLength
@@ -39,7 +55,7 @@ unfoldable pub segment_of : List ℕ → Result Segment SegFault
 segment_of bytes =
     if nat_lt (length bytes) 20 then Err Short
     else if nat_lt (header_len bytes) 20 || nat_lt (length bytes) (header_len bytes) then Err Offset
-    else with_items bytes (items_within (suc (length (options_of bytes))) (options_of bytes))
+    else with_items bytes (items_of (options_of bytes))
 
 -- the result is that of reading, unless memory ran out
 abbrev pub Gives : Result Segment SegFault → Result Segment SegFault → Type 0

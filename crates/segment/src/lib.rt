@@ -8,6 +8,7 @@
 //!
 //! - `Segment`: a segment, field by field; `Flag`: its flags, by name; `Bytes`: owned bytes
 //! - `decode`: the segment that bytes encode; `SegFault`: why they encode none
+//! - `permits_sack`: whether a segment's options permit selective acknowledgments
 //! - `encode`: the bytes of a segment; `EncFault`: why it can't be encoded
 //! - `OutOfMemory`: memory ran out
 //!
@@ -37,6 +38,7 @@ pub use encoder::encode;
 pub use fault::{EncFault, SegFault};
 pub use fields::Segment;
 pub use flag::Flag;
+pub use options::permits_sack;
 
 /// Memory ran out. Nothing was changed.
 pub type OutOfMemory = std::alloc::AllocError;

@@ -18,5 +18,3 @@ pub mod Answering
 pub mod Observations
 pub mod Watching
 pub mod End
-pub mod Cases
-pub mod Slack

@@ -1,11 +1,13 @@
 -- All that duties read of the world at a step.
-use Rattle.std.specs.Prelude.{ℕ, suc, nat_eq, Bool, true, false, if◌then◌else◌, List, [], ◌∷◌, length, Option}
+use Rattle.std.specs.Prelude.{ℕ, suc, nat_eq, Bool, true, false, not, ◌&&◌, if◌then◌else◌, List, [], ◌∷◌, length, Option}
 use Rattle.std.specs.Prelude.{None}
 use Rattle.std.specs.Prelude.{Some, slice_get}
 use Rattle.std.specs.Map.{lookup}
 use Rattle.std.specs.Option.{option_map, option_map_or}
-use Rattle.case_forms.specs.States.{is_closed}
+use Rattle.segment.specs.Reading.{permits_sack}
+use Rattle.case_forms.specs.States.{is_closed, is_syn_received, is_syn_sent}
 use Rattle.case_forms.specs.TakenLines.{timer_of}
+use Rattle.case_forms.specs.Versions.{says_sender}
 use Rattle.case_forms.specs.declared.calls.Answer.{Answer}
 use Rattle.case_forms.specs.declared.calls.Answer.TheVariants as answers
 use Rattle.case_forms.specs.declared.calls.Call.{Call}
@@ -21,7 +23,9 @@ use Rattle.spec_network.specs.Hosts.{World, HostState, HostStep, Step, Turn, Idl
 use Rattle.spec_network.specs.Tables.{on, pick, waiting}
 use Rattle.spec_tcp.specs.Arrives.{Taker, Nobody, AtListener, AtEndpoint, taker}
 use Rattle.spec_tcp.specs.Endpoints.{segment_length}
+use Rattle.spec_tcp.specs.Same.{same_word}
 use Rattle.spec_tcp.specs.declared.endpoint.Emission.{Emission}
+use Rattle.spec_tcp.specs.declared.endpoint.Endpoint.{Endpoint}
 use Rattle.spec_tcp.specs.declared.endpoint.SocketTarget.{SocketTarget}
 use Rattle.spec_tcp.specs.declared.endpoint.SocketTarget.TheVariants.{ListenerAt, EndpointAt}
 use Rattle.spec_tcp.specs.HostTcp.{HostTcp, place_of, socket_target, queue_of}
@@ -43,6 +47,8 @@ pub use Rattle.spec_duties.specs.declared.observations.BuiltChange.{BuiltChange}
 use Rattle.spec_duties.specs.declared.observations.BuiltChange.TheVariants as built_change
 pub use Rattle.spec_duties.specs.declared.observations.Queueing.{Queueing}
 use Rattle.spec_duties.specs.declared.observations.Queueing.TheVariants as queueing
+pub use Rattle.spec_duties.specs.declared.observations.SynChange.{SynChange}
+use Rattle.spec_duties.specs.declared.observations.SynChange.TheVariants as syn_change
 pub use Rattle.spec_duties.specs.declared.observations.TouchedEndpoint.{TouchedEndpoint}
 pub use Rattle.spec_duties.specs.declared.observations.Observation.{Observation}
 
@@ -57,6 +63,7 @@ unseen = record {
   discards = false;
   sampling = sampling.Nothing;
   earns = false;
+  syn_change = syn_change.Nothing;
   call_change = call_change.Nothing;
   socket_change = socket_change.Nothing;
 }
@@ -99,6 +106,39 @@ at_drop v host b m taking (AtListener l) = None
 at_drop v host b m taking (AtEndpoint i e) =
     at_place host b (events.Drops (asks (reads_old_numbers v) m taking e) (has_content m)) i
 
+-- ---- what a step does with a SYN, in version 6
+
+-- an endpoint's own SYN goes out with these bytes
+abbrev pub syn_sent : Version → Emission → (bytes : List ℕ) → SynChange
+syn_sent v m bytes =
+    if says_sender v && m.flags.syn && not m.is_reset_reply then syn_change.Sends (permits_sack bytes)
+    else syn_change.Nothing
+
+-- the peer's SYN is processed
+abbrev pub takes_syn : Version → Emission → Bool
+takes_syn v m = says_sender v && m.flags.syn && not m.flags.rst
+
+abbrev pub syn_taken : Version → Emission → Taker → SynChange
+syn_taken v m Nobody = syn_change.Nothing
+syn_taken v m (AtListener l) =
+    if takes_syn v m then syn_change.Takes (permits_sack m.bytes) false else syn_change.Nothing
+syn_taken v m (AtEndpoint i e) =
+    if takes_syn v m && is_syn_sent e.state then syn_change.Takes (permits_sack m.bytes) (not m.flags.ack)
+    else syn_change.Nothing
+
+-- the segment is the SYN that the endpoint took: it has no other flag, and the same number
+abbrev pub is_same_syn : Endpoint → Emission → Bool
+is_same_syn e m =
+    is_syn_received e.state && m.flags.syn && not m.flags.ack && not m.flags.rst && not m.flags.fin
+    && option_map_or (λ irs. same_word m.seq irs) e.irs false
+
+-- a segment is dropped
+abbrev pub syn_dropped : Version → Emission → Taker → SynChange
+syn_dropped v m Nobody = syn_change.Nothing
+syn_dropped v m (AtListener l) = syn_change.Nothing
+syn_dropped v m (AtEndpoint i e) =
+    if says_sender v && is_same_syn e m then syn_change.ComesAgain else syn_change.Nothing
+
 -- a segment leaves the inbox because it is processed, or because it is dropped
 abbrev pub observe_taking : Header → Host → HostTcp → (line : ℕ) → TakeChoice → Emission → Taker → Observation
 observe_taking h host b line how m t =
@@ -108,6 +148,7 @@ observe_taking h host b line how m t =
       discards = discards_at h.version how m t;
       sampling = sampling_at h.version how m t;
       earns = earns_by_taking h.version m t;
+      syn_change = syn_taken h.version m t;
     }
 
 abbrev pub observe_dropping : Version → Host → HostTcp → (line : ℕ) → (taking answering : Option Rule) → Emission
@@ -118,6 +159,7 @@ observe_dropping v host b line taking answering m t =
       inbox_change = inbox_change.Leaves line;
       dropping = Some (dropping_of host taking answering (droppable_by v b m t) (is_old v m t));
       earns = earns_by_dropping v m taking t;
+      syn_change = syn_dropped v m t;
     }
 
 -- of a step of a host; `fresh` is the number of the next segment to be built
@@ -135,7 +177,11 @@ observe_host_step h moment w fresh host s (network.Makes m) =
     }
 observe_host_step h moment w fresh host s (network.Sends line number wire) =
     on (lookup (nat_eq number) s.made) unseen
-    (λ m. record unseen { touched = at_sender host s.body m.emission; built_change = built_change.Sends number })
+    (λ m. record unseen {
+      touched = at_sender host s.body m.emission;
+      built_change = built_change.Sends number;
+      syn_change = syn_sent h.version m.emission wire.bytes;
+    })
 observe_host_step h moment w fresh host s (network.Gets line copied wire) =
     record unseen { inbox_change = inbox_change.Enters line }
 observe_host_step h moment w fresh host s (network.Hears line wire) =

@@ -22,6 +22,9 @@ view_of e = record {
   rcv_nxt = rcv_nxt e;
   rcv_adv = e.window.rcv_adv;
   congestion_edge = control_edge e.stream.snd_una e.control;
+  smss = e.control.values.smss;
+  dup = e.control.values.dup;
+  fast = e.control.values.fast;
   timers = e.timers;
   backoffs = e.backoffs;
 }
@@ -41,6 +44,9 @@ unborn = record {
   rcv_nxt = 0;
   rcv_adv = 0;
   congestion_edge = 0;
+  smss = 0;
+  dup = 0;
+  fast = false;
   timers = timers.start;
   backoffs = 0;
 }

@@ -23,7 +23,6 @@
 //!   trips are measured at least; `specs/Answering`: by when a call that waits is answered
 //! - `specs/Owed`: all that an endpoint owes; `specs/Observations`: what a step shows of the world
 //! - `specs/Watching`: the rules of a step, and what is kept after it; `specs/End`: the comparison after the last step
-//! - `specs/Cases`: the model and its duties together; `specs/Slack`: what a greater slack accepts
 #![tactic(auto)]
 
 mod answering;
@@ -37,7 +36,8 @@ mod views;
 pub use answering::{Awaited, CallChange, OpenCall, Ready, SocketChange, Waitable, Waiting};
 pub use events::{Event, Sending};
 pub use observations::{
-    BuiltChange, Droppable, Dropping, InboxChange, Observation, Queueing, Sampling, TouchedEndpoint,
+    BuiltChange, Droppable, Dropping, InboxChange, Observation, Queueing, Sampling, SynChange,
+    TouchedEndpoint,
 };
 pub use owed::{Lates, Owed, Probing};
 pub use strict::{StrictOwed, Unsent};

@@ -58,6 +58,19 @@ pub enum Sampling {
     Skips(u64),
 }
 
+/// What a step does with a SYN. Versions 1 to 5 don't ask.
+#[derive(Clone, Copy)]
+pub enum SynChange {
+    Nothing,
+    /// An endpoint sends its own SYN. `permits`: its options permit selective acknowledgments (RFC 2018, 2).
+    Sends { permits: bool },
+    /// An endpoint takes the SYN of its peer, or a listener does, which creates the endpoint. `alone`: the endpoint sent
+    /// its own, and this one doesn't acknowledge it (RFC 9293, 3.5, simultaneous initiation).
+    Takes { permits: bool, alone: bool },
+    /// The SYN that an endpoint in SYN-RECEIVED took comes again, and is dropped.
+    ComesAgain,
+}
+
 /// A segment that is dropped.
 #[derive(Clone, Copy)]
 pub struct Dropping {
@@ -94,6 +107,7 @@ pub struct Observation {
     pub sampling: Sampling,
     /// Whether the endpoint earns a credit by it, with which it may send an acknowledgment.
     pub earns: bool,
+    pub syn_change: SynChange,
     /// What it does to the call of a thread, and to a socket. Versions 1 to 5 don't ask.
     pub call_change: CallChange,
     pub socket_change: SocketChange,

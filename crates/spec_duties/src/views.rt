@@ -1,9 +1,9 @@
-//! What duties read of an endpoint.
+//! What is read of an endpoint beside the model.
 
 use case_forms::State;
 use timer_rules::Timers;
 
-/// What duties read of an endpoint. Positions and windows are those of RFC 9293, 3.3.1.
+/// What duties, and what is kept of data in flight, read of an endpoint. Positions and windows are those of RFC 9293, 3.3.1.
 #[derive(Clone, Copy)]
 pub struct View {
     pub state: State,
@@ -29,6 +29,12 @@ pub struct View {
     pub rcv_adv: u64,
     /// The position at which bytes end at most, by the congestion window (RFC 5681, 3.1).
     pub congestion_edge: u128,
+    /// The maximum segment size for sending, in bytes (SMSS).
+    pub smss: u32,
+    /// How many duplicate acknowledgments came since the last new one.
+    pub dup: u32,
+    /// Whether it is in fast recovery (RFC 5681, 3.2).
+    pub fast: bool,
     pub timers: Timers,
     /// How often the timeout was doubled since the last acknowledgment of new data (RFC 6298, 5.5).
     pub backoffs: u32,

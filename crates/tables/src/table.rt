@@ -16,6 +16,7 @@ use crate::sorted_numbers::place_among;
 use std::alloc::{AllocError, Global};
 use std::collections::BTreeMap;
 use std::marker::Model;
+use std::mem::replace;
 
 /// Entries by number. No entry is ever removed.
 #[derive(Drop)]
@@ -164,6 +165,19 @@ impl<V: Drop> Table<V> {
         self.entries.push_reserved((number, value));
         self.ready = None;
         Ok(())
+    }
+}
+
+impl<V: Drop> Table<V> {
+    /// Puts another value in the place of a number's, and returns that. `None` means that it has no entry; then nothing
+    /// changes.
+    pub fn replace(&mut self, number: u64, value: V) -> Option<V>
+        ensures value { result ≡ lookup (nat_eq number) self.old.entries }
+        ensures entries { self.new.entries ≡ changed_at (λ old. value) self.old.entries number }
+    {
+        let place = place_of(&self.entries, &self.index, number)?;
+        self.ready = None;
+        Some(replace(&mut self.entries[place].1, value))
     }
 }
 

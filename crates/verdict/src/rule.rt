@@ -1,7 +1,7 @@
 //! The rules that a step may break, by name, in the order in which they are tested.
 
 ghost use Rattle.std.specs.Prelude.{◌≡◌, ◌≤◌, Some, length};
-ghost use Rattle.verdict.specs.Rules.{rule_name};
+ghost use Rattle.verdict.specs.Rules.{rule_name, rule_number};
 
 use std::fmt;
 
@@ -180,6 +180,68 @@ impl Rule {
             Rule::AckExcess => "ack-excess",
             Rule::SampleDue => "sample-due",
             Rule::AnswerLate => "answer-late",
+        }
+    }
+
+    /// The rule's number, the first being 1. A lower-numbered rule is reported first.
+    pub fn number(self) -> u32
+        ensures { result ≡ rule_number self }
+    {
+        match self {
+            Rule::LineRange => 1,
+            Rule::LineAgain => 2,
+            Rule::ThreadOrder => 3,
+            Rule::MomentFalls => 4,
+            Rule::MomentOff => 5,
+            Rule::Overdue => 6,
+            Rule::ThreadBusy => 7,
+            Rule::NoCall => 8,
+            Rule::DoneTwice => 9,
+            Rule::AnswerDiffers => 10,
+            Rule::Socket => 11,
+            Rule::CallAnswer => 12,
+            Rule::NoEndpoint => 13,
+            Rule::State => 14,
+            Rule::Iss => 15,
+            Rule::BytesDiffer => 16,
+            Rule::NotMade => 17,
+            Rule::PayloadRange => 18,
+            Rule::AckField => 19,
+            Rule::OldData => 20,
+            Rule::Offered => 21,
+            Rule::Congestion => 22,
+            Rule::Size => 23,
+            Rule::NoEmission => 24,
+            Rule::CopyDiffers => 25,
+            Rule::Lifetime => 26,
+            Rule::Inbox => 27,
+            Rule::NotPeer => 28,
+            Rule::Number => 29,
+            Rule::Unacceptable => 30,
+            Rule::AckRange => 31,
+            Rule::QueueFull => 32,
+            Rule::Growth => 33,
+            Rule::Sample => 34,
+            Rule::TimerOff => 35,
+            Rule::TimerEarly => 36,
+            Rule::Recovery => 37,
+            Rule::ScaleUnread => 38,
+            Rule::Unplaced => 39,
+            Rule::Dropped => 40,
+            Rule::Discarded => 41,
+            Rule::ProcessLate => 42,
+            Rule::SendLate => 43,
+            Rule::AckLate => 44,
+            Rule::ExpiryLate => 45,
+            Rule::ResendLate => 46,
+            Rule::ProbeLate => 47,
+            Rule::StartLate => 48,
+            Rule::ResetLate => 49,
+            Rule::Resent => 50,
+            Rule::ResentBeyond => 51,
+            Rule::AckExcess => 52,
+            Rule::SampleDue => 56,
+            Rule::AnswerLate => 57,
         }
     }
 }

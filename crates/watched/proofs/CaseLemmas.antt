@@ -34,8 +34,8 @@ use Rattle.spec_duties.specs.Answering.{Waits, beginning, waits_after}
 use Rattle.spec_duties.specs.declared.answering.CallChange.{CallChange}
 use Rattle.spec_duties.specs.Observations.{observe, observe_turn, unseen, view_in}
 use Rattle.spec_duties.specs.Watching.{Duties, duty_rules, duties_after}
-use Rattle.spec_duties.specs.Cases.{Known, Watched, after, asked_after, asked_rules, forget, case_rules, judged_rules}
-use Rattle.spec_duties.specs.Cases.{known_after, noted_by, watch_rules, with_waits}
+use Rattle.spec_cases.specs.Cases.{Known, Watched, after, asked_after, asked_rules, forget, case_rules, judged_rules}
+use Rattle.spec_cases.specs.Cases.{known_after, noted_by, watch_rules, with_waits}
 use Rattle.spec_duties.specs.declared.answering.CallChange.TheVariants as call_change
 use Rattle.spec_duties.specs.declared.observations.Observation.{Observation}
 use Rattle.spec_duties.specs.declared.views.View.{View}

@@ -38,8 +38,8 @@ use Rattle.spec_tcp_laws.proofs.ForgetRules.{sample-forget}
 use Rattle.spec_tcp_laws.proofs.ForgetWorlds.{step_rules-forget}
 use Rattle.spec_duties.specs.Answering.{any_call, is_unanswered_late}
 use Rattle.spec_duties.specs.Views.{view_of, unborn}
-use Rattle.spec_duties.specs.Cases as cases
-use Rattle.spec_duties.specs.Cases.{Known, late_at_end}
+use Rattle.spec_cases.specs.Cases as cases
+use Rattle.spec_cases.specs.Cases.{Known, late_at_end}
 use Rattle.spec_duties.specs.End.{any_unsent, either, first_waiting, is_brought_late, is_send_late, lates_at, lates_from, lates_of_host, lates_of_all, line_of}
 use Rattle.spec_duties.specs.Owed.{late_rules, none_late}
 use Rattle.spec_duties.specs.Strict.{with_brought}

@@ -25,7 +25,7 @@ use Rattle.spec_tcp.specs.declared.endpoint.Emission.{Emission}
 use Rattle.spec_tcp.specs.declared.endpoint.Endpoint.{Endpoint}
 use Rattle.spec_duties.specs.Dropped.{answering_breaks, bare, taking_breaks}
 use Rattle.spec_duties.specs.Observations.{observe_host_step, observe_effect, observe_pending, observe}
-use Rattle.spec_duties.specs.Slack.{with_slack}
+use Rattle.spec_cases.specs.Slack.{with_slack}
 use Rattle.watched.specs.Slack.{SlackIsNotRead}
 use Rattle.watched.proofs.WaitLemmas.{opening_same, same_self}
 

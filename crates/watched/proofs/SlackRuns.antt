@@ -9,9 +9,9 @@ use Rattle.spec_network.specs.Hosts.{Stamped, Step, World}
 use Rattle.spec_network.specs.Tables.{pick}
 use Rattle.spec_tcp.specs.Machine.{tcp, tcp_shape}
 use Rattle.duties.proofs.SlackLemmas.{dutiful_any, late_any, less_late, slack_is_hardly_noted}
-use Rattle.spec_duties.specs.Cases.{Dutiful, Known, first_known, judged_rules, known_after, known_after_all, late_at_end, noted_by, watch_rules}
+use Rattle.spec_cases.specs.Cases.{Dutiful, Known, first_known, judged_rules, known_after, known_after_all, late_at_end, noted_by, watch_rules}
 use Rattle.spec_duties.specs.Observations.{observe}
-use Rattle.spec_duties.specs.Slack.{AreInOrder, AtMost, HasMoreCredits, credits_left, with_slack}
+use Rattle.spec_cases.specs.Slack.{AreInOrder, AtMost, HasMoreCredits, credits_left, with_slack}
 use Rattle.spec_duties.specs.Watching.{Duties}
 use Rattle.spec_duties.specs.declared.observations.Observation.{Observation}
 use Rattle.watched.proofs.SlackLemmas.{after_same, rules_same, observed_same}

@@ -7,7 +7,7 @@ use Rattle.spec_network.specs.Hosts.{Step, World}
 use Rattle.spec_tcp.specs.Machine.{tcp_shape}
 use Rattle.spec_tcp_laws.specs.Judging.{IsJudged, extent, header_by, world_judged}
 use Rattle.spec_tcp_laws.specs.Levels.{other_rules}
-use Rattle.spec_duties.specs.Cases.{Known, case_rules}
+use Rattle.spec_cases.specs.Cases.{Known, case_rules}
 use Rattle.spec_duties.specs.Observations.{observe}
 use Rattle.spec_duties.specs.declared.observations.Observation.{Observation}
 use Rattle.spec_duties.specs.declared.observations.TouchedEndpoint.{TouchedEndpoint}

@@ -6,7 +6,7 @@ use Rattle.spec_network.specs.HostSteps.{after}
 use Rattle.spec_network.specs.Hosts.{Step, World}
 use Rattle.spec_tcp.specs.Machine.{tcp, tcp_shape}
 use Rattle.spec_duties.specs.Observations.{observe}
-use Rattle.spec_duties.specs.Slack.{with_slack}
+use Rattle.spec_cases.specs.Slack.{with_slack}
 
 -- with another slack, a step breaks the same of the model's rules, leads to the same world, and shows the same
 pub record SlackIsNotRead (slack : Option ℕ) (h : Header) : Type 0 where

@@ -8,11 +8,13 @@ ghost use Rattle.spec_step.specs.Acts.{IsSmall, step_hidden};
 ghost use Rattle.spec_step.specs.Asked.{step_taking};
 ghost use Rattle.spec_step.specs.Faults.{IfBroken};
 ghost use Rattle.spec_tcp.specs.Bounds.{most_steps};
-ghost use Rattle.spec_duties.specs.Cases.{after, asked_after, asked_rules, broken_by, judged_rules, late_at_end};
-ghost use Rattle.spec_duties.specs.Cases.{noted_by, with_waits};
-ghost use Rattle.spec_duties.specs.Cases.{start};
+ghost use Rattle.spec_cases.specs.Cases.{after, asked_after, asked_rules, broken_by, judged_rules, late_at_end};
+ghost use Rattle.spec_cases.specs.Cases.{noted_by, with_waits};
+ghost use Rattle.spec_cases.specs.Cases.{start};
 ghost use Rattle.spec_duties.specs.Observations.{observe};
-ghost use Rattle.watched.specs.Watched.{IsPlain, case_of, noted};
+ghost use Rattle.endpoint_state.specs.Faults.{fault_rule};
+ghost use Rattle.spec_duties.specs.Observations as views;
+ghost use Rattle.watched.specs.Watched.{IsPlain, case_of, is_bare, least_broken};
 
 use crate::calls::observe_effect;
 use crate::case_end;
@@ -23,27 +25,30 @@ use crate::waiting::note_waits;
 use case_forms::{Event, Extras, Header, Line, OutOfMemory, TakenLine};
 use duties::{Duties, judged_slack};
 use endpoint_state::{StepFault, World};
-use spec_duties::Observation;
+use flights::Flights;
+use spec_duties::{Observation, View};
 use spec_step::{Hidden, ModelStep};
 use std::alloc::Global;
 use std::marker::Model;
 use verdict::Rule;
 
-/// The world of a case, and what its hosts owe. Nothing is owed if the header says `slack any`.
+/// The world of a case, what is kept of data in flight, and what its hosts owe. Nothing is owed if the header says
+/// `slack any`, and nothing is kept of data in flight in versions 1 to 5.
 #[derive(Drop)]
 pub struct Case {
     world: World,
+    flights: Flights,
     duties: Duties,
 }
 
 impl Model for Case {
-    ghost use Rattle.spec_duties.specs.Cases.{Watched};
+    ghost use Rattle.spec_cases.specs.Cases.{Watched};
 
     ghost Value = { Watched };
 
     ghost view = { λ a. record {
       header = a.world.header;
-      world = record { model = a.world.world; duties = a.duties };
+      world = record { model = a.world.world; flights = a.flights; duties = a.duties };
       steps = a.world.steps;
     } };
 }
@@ -55,6 +60,7 @@ impl Case {
     {
         Case {
             world: World::start(alloc, header),
+            flights: Flights::start(alloc),
             duties: Duties::start(alloc),
         }
     }
@@ -80,6 +86,13 @@ impl Case {
         ensures steps { result.now.steps ≡ self.now.steps }
     {
         &self.world
+    }
+
+    /// What is kept of data in flight.
+    pub fn flights(&self) -> &Flights
+        ensures { result.now ≡ self.now.world.flights }
+    {
+        &self.flights
     }
 
     /// What its hosts owe.
@@ -123,15 +136,18 @@ fn note_waits_if(
     }
 }
 
-// Judges a step that the model did, and notes it if no duty refuses it.
+// Judges a step that the model did, and notes it if no duty refuses it; its endpoint is then seen like this.
 #[inline(always)]
 fn watch(
     world: &World,
     duties: &mut Duties,
     moment: u64,
     seen: &Observation,
+    after: &View,
 ) -> Result<(), StepFault>
-    ensures ok { OnOk result (case_of world.now duties.new ≡ noted moment seen.now (case_of world.now duties.old)) }
+    requires { after.now ≡ views.view_in world.now.world seen.now.touched }
+    ensures ok { OnOk result
+        (duties.new ≡ noted_by world.now.header moment world.now.world seen.now duties.old) }
     ensures admitted { OnOk result (first_broken (judged_rules world.now.header moment duties.old seen.now) ≡ None) }
     ensures broken { IfErr result (λ fault. IfBroken fault
         (λ rule. first_broken (judged_rules world.now.header moment duties.old seen.now) ≡ Some rule)) }
@@ -141,16 +157,39 @@ fn watch(
     };
     duties.admits(world.header(), slack, moment, seen)?;
     let strict = world.header().version.says_sender();
-    duties.note(strict, slack, moment, seen, &view_in(world, &seen.touched))?;
+    duties.note(strict, slack, moment, seen, after)?;
     note_waits_if(strict, world, duties, moment, seen)?;
     Ok(())
 }
 
-// Does a step in the world, and for the duties, which see this of it. It is inlined for each kind of step, so that only
-// what this kind shows is compared.
+// The fault of a step of the model, if what is kept of data in flight says that it breaks a rule: that with the lower
+// number.
+#[inline(always)]
+fn with_refusal(done: Result<(), StepFault>, refusal: Option<Rule>) -> Result<(), StepFault>
+    ensures { fault_rule result ≡ least_broken refusal (fault_rule done) }
+{
+    let Some(refused) = refusal else {
+        return done;
+    };
+    match done {
+        Ok(()) => Err(StepFault::Broken(refused)),
+        Err(StepFault::OutOfMemory) => Err(StepFault::OutOfMemory),
+        Err(StepFault::Broken(rule)) => {
+            if rule.number() < refused.number() {
+                Err(StepFault::Broken(rule))
+            } else {
+                Err(StepFault::Broken(refused))
+            }
+        }
+    }
+}
+
+// Does a step in the world, and for what is kept beside it, which sees this of it. It is inlined for each kind of step,
+// so that only what this kind shows is compared.
 #[inline(always)]
 fn watch_step<S: ModelStep>(
     world: &mut World,
+    flights: &mut Flights,
     duties: &mut Duties,
     moment: u64,
     step: S,
@@ -159,30 +198,47 @@ fn watch_step<S: ModelStep>(
     requires steps { world.old.steps < most_steps }
     requires small { S.is_small step }
     requires seen { seen.now ≡ observe world.old.header moment world.old.world (S.step step) }
-    ensures ok { OnOk result
-        (case_of world.new duties.new ≡ after (case_of world.old duties.old) moment (S.step step)) }
-    ensures admitted { OnOk result (broken_by (case_of world.old duties.old) moment (S.step step) ≡ None) }
+    ensures ok { OnOk result (case_of world.new flights.new duties.new
+        ≡ after (case_of world.old flights.old duties.old) moment (S.step step)) }
+    ensures admitted { OnOk result
+        (broken_by (case_of world.old flights.old duties.old) moment (S.step step) ≡ None) }
     ensures broken { IfErr result (λ fault. IfBroken fault
-        (λ rule. broken_by (case_of world.old duties.old) moment (S.step step) ≡ Some rule)) }
+        (λ rule. broken_by (case_of world.old flights.old duties.old) moment (S.step step) ≡ Some rule)) }
 {
-    match step.apply(world, moment) {
-        Ok(()) => watch(world, duties, moment, seen),
+    let refusal = flights.refusal(world.header(), seen);
+    match with_refusal(step.apply(world, moment), refusal) {
+        Ok(()) => {
+            let after = view_in(world, &seen.touched);
+            flights.note(world.header(), seen, &after)?;
+            watch(world, duties, moment, seen, &after)
+        }
         Err(fault) => Err(fault),
     }
 }
 
-// Whether duties judge nothing of a step that takes a line: the header says `any`, or a call begins or ends in versions
-// 1 to 5.
+// Whether nothing is kept or judged beside the model, of any step.
+#[inline(always)]
+fn is_bare(header: &Header) -> bool
+    ensures { result ≡ is_bare header.now }
+{
+    header.slack.is_none() && !header.version.says_sender()
+}
+
+// Whether nothing is kept or judged of a step that takes a line: of any, or because a call begins or ends in versions 1
+// to 5.
 #[tactic(auto, using(crate::proofs::CaseLemmas::begin_is_plain, crate::proofs::CaseLemmas::end_is_plain))]
 #[inline(always)]
 fn is_plain(header: &Header, line: &Line) -> bool
     ensures { IsTrue result → (extras : Extras) → IsPlain header.now (step_taking extras line.now) }
 {
+    if header.version.says_sender() {
+        return false;
+    }
     if header.slack.is_none() {
         return true;
     }
     match &line.event {
-        Event::CallBegin(_) | Event::CallEnd(_) => !header.version.says_sender(),
+        Event::CallBegin(_) | Event::CallEnd(_) => true,
         Event::Sent(_, _) | Event::Came(_, _) | Event::Expired(_, _, _, _) => false,
     }
 }
@@ -192,26 +248,32 @@ fn is_plain(header: &Header, line: &Line) -> bool
 #[inline(never)]
 fn judge_line(
     world: &mut World,
+    flights: &mut Flights,
     duties: &mut Duties,
     moment: u64,
     line: Line,
     extras: Extras,
 ) -> Result<(), StepFault>
     requires { world.old.steps < most_steps }
-    ensures ok { OnOk result (case_of world.new duties.new
-        ≡ asked_after (case_of world.old duties.old) moment (step_taking extras line)) }
-    ensures admitted { OnOk result
-        (first_broken (asked_rules (case_of world.old duties.old) moment (step_taking extras line)) ≡ None) }
-    ensures broken { IfErr result (λ fault. IfBroken fault (λ rule.
-        first_broken (asked_rules (case_of world.old duties.old) moment (step_taking extras line)) ≡ Some rule)) }
+    ensures ok { OnOk result (case_of world.new flights.new duties.new
+        ≡ asked_after (case_of world.old flights.old duties.old) moment (step_taking extras line)) }
+    ensures admitted { OnOk result (first_broken
+        (asked_rules (case_of world.old flights.old duties.old) moment (step_taking extras line)) ≡ None) }
+    ensures broken { IfErr result (λ fault. IfBroken fault (λ rule. first_broken
+        (asked_rules (case_of world.old flights.old duties.old) moment (step_taking extras line)) ≡ Some rule)) }
 {
     let Some(taken) = line.taken(extras) else {
         return Ok(());
     };
     match taken {
-        TakenLine::Sent { host, made, .. } => {
-            let seen = observe_sending(world, host, made);
-            watch_step(world, duties, moment, taken, &seen)
+        TakenLine::Sent {
+            host,
+            made,
+            ref wire,
+            ..
+        } => {
+            let seen = observe_sending(world, host, made, wire);
+            watch_step(world, flights, duties, moment, taken, &seen)
         }
         TakenLine::CallBegin { .. }
         | TakenLine::CallEnd { .. }
@@ -219,7 +281,7 @@ fn judge_line(
         | TakenLine::Heard { .. }
         | TakenLine::Expired { .. } => {
             let seen = observe_line(world, moment, &taken);
-            watch_step(world, duties, moment, taken, &seen)
+            watch_step(world, flights, duties, moment, taken, &seen)
         }
     }
 }
@@ -228,41 +290,43 @@ fn judge_line(
 #[inline(never)]
 fn judge_hidden(
     world: &mut World,
+    flights: &mut Flights,
     duties: &mut Duties,
     moment: u64,
     step: &Hidden<'_>,
 ) -> Result<(), StepFault>
     requires steps { world.old.steps < most_steps }
     requires small { IsSmall step.now }
-    ensures ok { OnOk result
-        (case_of world.new duties.new ≡ after (case_of world.old duties.old) moment (step_hidden step.now)) }
-    ensures admitted { OnOk result (broken_by (case_of world.old duties.old) moment (step_hidden step.now) ≡ None) }
+    ensures ok { OnOk result (case_of world.new flights.new duties.new
+        ≡ after (case_of world.old flights.old duties.old) moment (step_hidden step.now)) }
+    ensures admitted { OnOk result
+        (broken_by (case_of world.old flights.old duties.old) moment (step_hidden step.now) ≡ None) }
     ensures broken { IfErr result (λ fault. IfBroken fault
-        (λ rule. broken_by (case_of world.old duties.old) moment (step_hidden step.now) ≡ Some rule)) }
+        (λ rule. broken_by (case_of world.old flights.old duties.old) moment (step_hidden step.now) ≡ Some rule)) }
 {
     match *step {
         Hidden::Effect { thread, answer } => {
             let seen = observe_effect(world, moment, thread, answer);
-            watch_step(world, duties, moment, *step, &seen)
+            watch_step(world, flights, duties, moment, *step, &seen)
         }
         Hidden::Build { host, plan } => {
             let seen = observe_making(world, host, plan, moment);
-            watch_step(world, duties, moment, *step, &seen)
+            watch_step(world, flights, duties, moment, *step, &seen)
         }
         Hidden::Process { host, line, choice } => {
             let seen = observe_taking(world, host, line, choice, moment);
-            watch_step(world, duties, moment, *step, &seen)
+            watch_step(world, flights, duties, moment, *step, &seen)
         }
         Hidden::Drop { .. } | Hidden::Reset { .. } | Hidden::Recover { .. } => {
             let seen = observe_hidden(world, moment, step);
-            watch_step(world, duties, moment, *step, &seen)
+            watch_step(world, flights, duties, moment, *step, &seen)
         }
     }
 }
 
 /// Does a step that takes this line of the trace with these extra numbers, at a moment in microseconds. If a line of
-/// its kind needs another count of them, it does nothing. The error is the least rule that it breaks, of the model or
-/// of a duty, or that memory ran out; the case is of no use then.
+/// its kind needs another count of them, it does nothing. The error is the least rule that it breaks, of the model, of
+/// what is kept of data in flight or of a duty, or that memory ran out; the case is of no use then.
 #[inline(always)]
 pub fn take_line(case: &mut Case, moment: u64, line: Line, extras: Extras) -> Result<(), StepFault>
     requires { case.old.steps < most_steps }
@@ -274,7 +338,8 @@ pub fn take_line(case: &mut Case, moment: u64, line: Line, extras: Extras) -> Re
     if is_plain(case.world.header(), &line) {
         spec_step::take_line(&mut case.world, moment, line, extras)
     } else {
-        judge_line(&mut case.world, &mut case.duties, moment, line, extras)
+        let (world, flights, duties) = (&mut case.world, &mut case.flights, &mut case.duties);
+        judge_line(world, flights, duties, moment, line, extras)
     }
 }
 
@@ -287,8 +352,10 @@ pub fn apply_hidden(case: &mut Case, moment: u64, step: &Hidden<'_>) -> Result<(
     ensures broken { IfErr result (λ fault. IfBroken fault
         (λ rule. broken_by case.old moment (step_hidden step.now) ≡ Some rule)) }
 {
-    match case.world.header().slack {
-        Some(_) => judge_hidden(&mut case.world, &mut case.duties, moment, step),
-        None => (*step).apply(&mut case.world, moment),
+    if is_bare(case.world.header()) {
+        (*step).apply(&mut case.world, moment)
+    } else {
+        let (world, flights, duties) = (&mut case.world, &mut case.flights, &mut case.duties);
+        judge_hidden(world, flights, duties, moment, step)
     }
 }

@@ -7,7 +7,7 @@ ghost use Rattle.spec_network.specs.Hosts.{Step, World};
 ghost use Rattle.spec_tcp.specs.Forgetting.{forget};
 ghost use Rattle.spec_tcp.specs.Machine.{tcp_shape};
 ghost use Rattle.spec_tcp_laws.specs.Ascending.{ascend};
-ghost use Rattle.spec_duties.specs.Cases.{Known, case_rules};
+ghost use Rattle.spec_cases.specs.Cases.{Known, case_rules};
 ghost use Rattle.spec_duties.specs.Observations.{observe};
 ghost use Rattle.watched.specs.Levels.{CaseJudgedAlike, LessJudgedShowsTheSame};
 ghost use Rattle.watched.specs.Slack.{SlackIsNotRead};

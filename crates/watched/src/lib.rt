@@ -7,7 +7,8 @@
 //!
 //! - `cases`: a case with its duties: each step, and the comparison at the end
 //! - `observations`: what a step shows of the world; `calls`: the same for the effect of a call; `dropped`: for a
-//!   segment that is dropped; `sampling`: whether a round trip is measured; `credits`: whether a credit is earned
+//!   segment that is dropped; `sampling`: whether a round trip is measured; `credits`: whether a credit is earned;
+//!   `syns`: what is done with a SYN
 //! - `waiting`: calls that wait, and what is kept of them
 //! - `case_end`: what is late at the end; `laws`: what duties read of the world and of the header
 #![tactic(auto)]
@@ -20,6 +21,7 @@ mod dropped;
 mod laws;
 mod observations;
 mod sampling;
+mod syns;
 mod waiting;
 
 pub use case_end::late_at_end;

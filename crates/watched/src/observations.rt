@@ -24,15 +24,16 @@ use crate::dropped::{
     admits_answering, admits_processing, discards_at, droppable_by, is_old, target_of,
 };
 use crate::sampling::sampling_at;
+use crate::syns::{syn_dropped, syn_sent, syn_taken};
 use crate::waiting::{observe_begin, observe_end};
-use case_forms::{Host, Ports, SegmentPlan, TakeChoice, TakenLine, Version};
+use case_forms::{Host, Ports, SegmentPlan, TakeChoice, TakenLine, Version, Wire};
 use duties::{
     Target, asks, dropping_of, has_content, processing_place, reads_old_numbers, unborn, view_of,
 };
 use endpoint_state::{HostTcp, World};
 use spec_duties::{
     BuiltChange, CallChange, Event, InboxChange, Observation, Queueing, Sampling, Sending,
-    SocketChange, TouchedEndpoint, View,
+    SocketChange, SynChange, TouchedEndpoint, View,
 };
 use spec_step::Hidden;
 use spec_tcp::Emission;
@@ -52,6 +53,7 @@ pub(crate) fn unseen() -> Observation
         discards: false,
         sampling: Sampling::Nothing,
         earns: false,
+        syn_change: SynChange::Nothing,
         call_change: CallChange::Nothing,
         socket_change: SocketChange::Nothing,
     }
@@ -210,6 +212,7 @@ fn observe_drop(world: &World, host: Host, line: u64, moment: u64) -> Observatio
         inbox_change: InboxChange::Leaves(line),
         dropping: Some(dropping_of(host, processing, answering, droppable, old)),
         earns: earns_by_dropping(version, body, m, processing, target),
+        syn_change: syn_dropped(version, body, m, target),
         ..unseen()
     }
 }
@@ -239,6 +242,7 @@ pub(crate) fn observe_taking(
         discards: discards_at(version, body, how, m, target),
         sampling: sampling_at(version, body, how, m, target),
         earns: earns_by_taking(version, body, m, target),
+        syn_change: syn_taken(version, body, m, target),
         ..unseen()
     }
 }
@@ -288,17 +292,19 @@ fn fresh(world: &World) -> u32
 
 /// A host sends the segment that it built under this number.
 #[inline(always)]
-pub(crate) fn observe_sending(world: &World, host: Host, number: u32) -> Observation
+pub(crate) fn observe_sending(world: &World, host: Host, number: u32, wire: &Wire) -> Observation
     ensures { result ≡ on (lookup (nat_eq number) (pick world.now.world.hosts host).made) unseen
         (λ m. record unseen {
           touched = at_sender host (pick world.now.world.hosts host).body m.emission;
           built_change = built_change.Sends number;
+          syn_change = syn_sent world.now.header.version m.emission wire.now.bytes;
         }) }
 {
     match world.made(host, number) {
         Some(made) => Observation {
             touched: at_sender(host, world.body(host), made.emission()),
             built_change: BuiltChange::Sends(number),
+            syn_change: syn_sent(world.header().version, made.emission(), &wire.bytes),
             ..unseen()
         },
         None => unseen(),
@@ -329,7 +335,9 @@ pub fn observe_line(world: &World, moment: u64, line: &TakenLine) -> Observation
     match line {
         TakenLine::CallBegin { thread, call, .. } => observe_begin(world.header(), *thread, call),
         TakenLine::CallEnd { thread, .. } => observe_end(world.header(), *thread),
-        TakenLine::Sent { host, made, .. } => observe_sending(world, *host, *made),
+        TakenLine::Sent {
+            host, made, wire, ..
+        } => observe_sending(world, *host, *made, wire),
         TakenLine::Came { line, .. } | TakenLine::Heard { line, .. } => observe_arrival(*line),
         TakenLine::Expired {
             host,

@@ -4,7 +4,7 @@ use Rattle.verdict.specs.declared.rule.Rule.{Rule}
 use Rattle.interval_order.specs.Orders.{Move, order_after}
 use Rattle.spec_step.specs.Acts.{step_hidden}
 use Rattle.spec_step.specs.Faults.{IfBroken}
-use Rattle.spec_duties.specs.Cases.{Watched}
+use Rattle.spec_cases.specs.Cases.{Watched}
 use Rattle.checker.proofs.HiddenLemmas.{hidden_broken, hidden_move, hidden_next}
 use Rattle.checker.proofs.KeptLemmas.{placed_line, refused_line}
 use Rattle.checker.proofs.replay.replay.Goals as goal

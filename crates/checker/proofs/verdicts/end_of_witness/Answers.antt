@@ -1,6 +1,6 @@
 use Rattle.std.proofs.Common.{◌≡◌, [], ◌∙◌, subst, sym}
 use Rattle.trace_reader.specs.TraceLeft.{lines_left}
-use Rattle.spec_duties.specs.Cases.{late_at_end}
+use Rattle.spec_cases.specs.Cases.{late_at_end}
 use Rattle.checker.specs.Ahead.{left_ahead, line_ahead}
 use Rattle.checker.specs.Verdicts.{verdict_left}
 use Rattle.checker.proofs.EndLemmas.{ends_when, some_left, none_left, next_number}

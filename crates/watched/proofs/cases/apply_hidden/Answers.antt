@@ -3,7 +3,7 @@ use Rattle.std.specs.Prelude.{IfErr, OnOk}
 use Rattle.case_forms.specs.declared.trace.Header.{Header}
 use Rattle.spec_step.specs.Acts.{step_hidden}
 use Rattle.spec_step.specs.Faults.{IfBroken}
-use Rattle.spec_duties.specs.Cases.{Watched, after, broken_by}
+use Rattle.spec_cases.specs.Cases.{Watched, after, broken_by}
 use Rattle.watched.specs.Watched.{case_of}
 use Rattle.watched.proofs.CaseLemmas.{plain_admits, plain_breaks, plain_is}
 use Rattle.watched.proofs.cases.apply_hidden.Goals as goal

@@ -4,7 +4,7 @@ use Rattle.case_forms.specs.declared.trace.Header.{Header}
 use Rattle.verdict.specs.Rules.{first_broken}
 use Rattle.spec_step.specs.Asked.{step_taking}
 use Rattle.spec_step.specs.Faults.{IfBroken}
-use Rattle.spec_duties.specs.Cases.{Watched, asked_after, asked_rules}
+use Rattle.spec_cases.specs.Cases.{Watched, asked_after, asked_rules}
 use Rattle.watched.specs.Watched.{IsPlain, case_of}
 use Rattle.watched.proofs.CaseLemmas.{plain_line_admits, plain_line_breaks, plain_line_is}
 use Rattle.watched.proofs.cases.take_line.Goals as goal

@@ -1,6 +1,6 @@
 use Rattle.std.proofs.Common.{Some}
 use Rattle.verdict.specs.Rules.{first_broken}
-use Rattle.spec_duties.specs.Cases.{judged_rules}
+use Rattle.spec_cases.specs.Cases.{judged_rules}
 use Rattle.watched.specs.Watched.{case_of}
 use Rattle.watched.proofs.CaseLemmas.{model_breaks_asked, asked_breaks, asked_admits, judged_later, note_is}
 use Rattle.watched.proofs.cases.watch_step.Goals as goal

@@ -1,15 +1,18 @@
 -- The slack: the greater it is, the more is accepted; with `any` everything is.
-use Rattle.std.specs.Prelude.{◌≡◌, ◌≤◌, ℕ, suc, if◌then◌else◌, List, [], ◌∷◌, Option, None, Some}
+use Rattle.std.specs.Prelude.{◌≡◌, ◌≤◌, ℕ, suc, false, if◌then◌else◌, List, [], ◌∷◌, Option, None, Some}
 use Rattle.std.specs.List.{AllByRecursion}
 use Rattle.case_forms.specs.declared.calls.Host.{Host}
+use Rattle.case_forms.specs.Versions.{says_sender}
 use Rattle.case_forms.specs.declared.trace.Header.{Header}
 use Rattle.verdict.specs.Rules.{first_broken}
+use Rattle.spec_network.specs.HostSteps.{Lawful}
 use Rattle.spec_network.specs.Hosts.{Stamped, World}
 use Rattle.spec_network.specs.Tables.{pick}
-use Rattle.spec_tcp.specs.Machine.{tcp_shape}
+use Rattle.spec_tcp.specs.Machine.{tcp, tcp_shape}
 use Rattle.spec_duties.specs.Credits.{is_credit_from}
 use Rattle.spec_duties.specs.Watching.{Duties}
-use Rattle.spec_duties.specs.Cases.{Known, Dutiful, judged_rules, late_at_end, noted_by}
+use Rattle.spec_flights.specs.Flights.{Flights}
+use Rattle.spec_cases.specs.Cases.{Known, Dutiful, judged_rules, late_at_end, noted_by}
 use Rattle.spec_duties.specs.declared.observations.Observation.{Observation}
 
 -- the same header with another slack
@@ -46,9 +49,9 @@ pub record LessLateIsMoreAccepted (less more : Option ℕ) : Type 0 where
   pub steps : (h : Header) (moment : ℕ) (few many : Duties) (s : Observation) → HasMoreCredits few many
       → first_broken (judged_rules (with_slack less h) moment few s) ≡ None
       → first_broken (judged_rules (with_slack more h) moment many s) ≡ None
-  pub end : (h : Header) (moment : ℕ) (w : World tcp_shape) (few many : Duties) → HasMoreCredits few many
-      → late_at_end (with_slack less h) moment (record { model = w; duties = few }) ≡ None
-      → late_at_end (with_slack more h) moment (record { model = w; duties = many }) ≡ None
+  pub end : (h : Header) (moment : ℕ) (w : World tcp_shape) (fs : Flights) (few many : Duties) → HasMoreCredits few many
+      → late_at_end (with_slack less h) moment (record { model = w; flights = fs; duties = few }) ≡ None
+      → late_at_end (with_slack more h) moment (record { model = w; flights = fs; duties = many }) ≡ None
 
 -- what is kept after a step that isn't refused depends on the slack in credits alone: with a greater slack, a segment
 -- takes one that is as old or older, so at least as many are left
@@ -59,8 +62,9 @@ SlackIsHardlyNoted =
     → HasMoreCredits (noted_by (with_slack (Some less) h) moment w s few)
     (noted_by (with_slack (Some more) h) moment w s many)
 
--- without a slack nothing is judged
+-- without a slack no duty is judged, and in versions 1 to 5 nothing but the model
 pub record NothingIsJudged : Type 0 where
   pub rules : (h : Header) (moment : ℕ) (d : Duties) (s : Observation) → h.slack ≡ None → judged_rules h moment d s ≡ []
-  pub runs : (h : Header) (k : Known) (xs : List (Stamped tcp_shape)) → h.slack ≡ None → Dutiful h k xs
+  pub runs : (h : Header) (k : Known) (xs : List (Stamped tcp_shape)) → h.slack ≡ None → says_sender h.version ≡ false
+      → Lawful (tcp h) k.model xs → Dutiful h k xs
   pub end : (h : Header) (moment : ℕ) (k : Known) → h.slack ≡ None → late_at_end h moment k ≡ None

@@ -1,10 +1,11 @@
--- The model of a case with its duties.
-use Rattle.std.specs.Prelude.{◌≡◌, ℕ, suc, Bool, if◌then◌else◌, List, [], ◌∷◌, ◌++◌, Option, None}
+-- The model of a case, with its data in flight and its duties.
+use Rattle.std.specs.Prelude.{◌≡◌, ℕ, suc, nat_eq, Bool, true, if◌then◌else◌, List, [], ◌∷◌, ◌++◌, map, Option}
+use Rattle.std.specs.Prelude.{None, Some}
 use Rattle.std.specs.Option.{option_map_or}
 use Rattle.case_forms.specs.declared.trace.Header.{Header}
 use Rattle.case_forms.specs.Versions.{says_sender}
 use Rattle.verdict.specs.declared.rule.Rule.{Rule}
-use Rattle.verdict.specs.Rules.{first_broken}
+use Rattle.verdict.specs.Rules.{first_broken, rule_number}
 use Rattle.spec_network.specs.Hosts.{Stamped, Step, World}
 use Rattle.spec_network.specs.HostRules.{step_rules}
 use Rattle.spec_network.specs.HostSteps as network
@@ -16,10 +17,13 @@ use Rattle.spec_duties.specs.Observations.{Observation, observe, view_in}
 use Rattle.spec_duties.specs.Watching as watching
 use Rattle.spec_duties.specs.Watching.{Duties, duty_rules, duties_after}
 use Rattle.spec_duties.specs.End as end
+use Rattle.spec_flights.specs.Flights as flights
+use Rattle.spec_flights.specs.Flights.{Flights, flights_after, refusal}
 
--- the model's world, and what its hosts owe
+-- the model's world, what is kept of data in flight, and what its hosts owe
 pub record Known : Type 0 where
   pub model : World tcp_shape
+  pub flights : Flights
   pub duties : Duties
 
 -- a case: its header, what is known, and how many steps were done
@@ -29,7 +33,7 @@ pub record Watched : Type 0 where
   pub steps : ℕ
 
 abbrev pub first_known : Header → Known
-first_known h = record { model = network.start (tcp h); duties = watching.start }
+first_known h = record { model = network.start (tcp h); flights = flights.start; duties = watching.start }
 
 abbrev pub start : Header → Watched
 start h = record { header = h; world = first_known h; steps = 0 }
@@ -56,14 +60,33 @@ noted_by h moment w s d =
 abbrev pub watch_rules : Header → (moment : ℕ) → Known → Step tcp_shape → List (Rule × Bool)
 watch_rules h moment k step = judged_rules h moment k.duties (observe h moment k.model step)
 
+-- the rule counts as broken
+abbrev pub with_broken : Rule → Rule × Bool → Rule × Bool
+with_broken rule r = if nat_eq (rule_number rule) (rule_number r.0) then (rule, true) else r
+
+-- the same of the rules of a step, if there is such a rule
+abbrev pub with_refusal : Option Rule → List (Rule × Bool) → List (Rule × Bool)
+with_refusal None rules = rules
+with_refusal (Some rule) rules = map (with_broken rule) rules
+
+-- the rules of the model at a step; what is kept of data in flight may break one of them, too
+abbrev pub model_rules : Header → (moment : ℕ) → Known → Step tcp_shape → List (Rule × Bool)
+model_rules h moment k step =
+    with_refusal (refusal h k.flights (observe h moment k.model step)) (step_rules (tcp h) moment k.model step)
+
 -- the rules of a step: those of the model, then those of duties
 abbrev pub case_rules : Header → (moment : ℕ) → Known → Step tcp_shape → List (Rule × Bool)
-case_rules h moment k step = step_rules (tcp h) moment k.model step ++ watch_rules h moment k step
+case_rules h moment k step = model_rules h moment k step ++ watch_rules h moment k step
+
+-- what is kept of data in flight after it, in that world
+abbrev pub flown : Header → (after : World tcp_shape) → Observation → Flights → Flights
+flown h w s fs = flights_after h (view_in w s.touched) s fs
 
 -- what is known after it
 abbrev pub known_after : Header → (moment : ℕ) → Known → Step tcp_shape → Known
 known_after h moment k step = record {
   model = network.after (tcp h) moment k.model step;
+  flights = flown h (network.after (tcp h) moment k.model step) (observe h moment k.model step) k.flights;
   duties =
       noted_by h moment (network.after (tcp h) moment k.model step) (observe h moment k.model step) k.duties;
 }
@@ -94,8 +117,12 @@ asked_rules p moment asked = option_map_or (case_rules p.header moment p.world) 
 abbrev pub asked_after : Watched → (moment : ℕ) → Option (Step tcp_shape) → Watched
 asked_after p moment asked = option_map_or (after p moment) asked p
 
--- no duty refuses a step of a run
+-- no duty refuses a step, nor does what is kept of data in flight
+pub record IsDutiful (h : Header) (moment : ℕ) (k : Known) (step : Step tcp_shape) : Type 0 where
+  pub duties : first_broken (watch_rules h moment k step) ≡ None
+  pub flights : first_broken (model_rules h moment k step) ≡ None
+
+-- the same of each step of a run
 abbrev pub Dutiful : Header → Known → List (Stamped tcp_shape) → Type 0
 Dutiful h k [] = Unit {0}
-Dutiful h k (x ∷ xs) =
-    (first_broken (watch_rules h x.moment k x.step) ≡ None) × Dutiful h (known_after h x.moment k x.step) xs
+Dutiful h k (x ∷ xs) = IsDutiful h x.moment k x.step × Dutiful h (known_after h x.moment k x.step) xs

@@ -1,0 +1,200 @@
+//! What is kept of all endpoints, what it refuses, and what is kept after a step.
+
+ghost use Rattle.std.specs.Prelude.{◌≡◌, None, nat_eq, unwrap_or, OnOk, IfOk};
+ghost use Rattle.std.specs.Map.{lookup};
+ghost use Rattle.indexmap.specs.IndexMap.{insert_entry};
+ghost use Rattle.spec_network.specs.Tables.{on, pick};
+ghost use Rattle.spec_flights.specs.Flights.{broken_at, flight_after, flight_at, flights_after, flights_touched};
+ghost use Rattle.spec_flights.specs.Flights.{judges, refusal, start, unflown};
+
+use crate::flight::Flight;
+use case_forms::{Header, Host, Judged, OutOfMemory};
+use spec_duties::{Observation, SynChange, TouchedEndpoint, View};
+use std::alloc::Global;
+use std::marker::Model;
+use std::mem::replace;
+use tables::Table;
+use verdict::Rule;
+
+// The table of each host.
+#[derive(Drop)]
+struct Tables {
+    zero: Table<Flight>,
+    one: Table<Flight>,
+}
+
+impl Model for Tables {
+    ghost use Rattle.spec_flights.specs.Flights.{Flights};
+
+    ghost Value = { Flights };
+
+    ghost view = { λ a. record { zero = a.zero.entries; one = a.one.entries } };
+}
+
+impl Tables {
+    fn new(alloc: Global) -> Tables
+        ensures { result ≡ start }
+    {
+        Tables {
+            zero: Table::new(alloc),
+            one: Table::new(alloc),
+        }
+    }
+
+    fn get(&self, host: Host) -> &Table<Flight>
+        ensures { result.now.entries ≡ pick self.now host }
+    {
+        match host {
+            Host::Zero => &self.zero,
+            Host::One => &self.one,
+        }
+    }
+
+    // Notes a step at an endpoint.
+    fn note(
+        &mut self,
+        alloc: Global,
+        change: SynChange,
+        touched: &TouchedEndpoint,
+        after: &View,
+    ) -> Result<(), OutOfMemory>
+        ensures { OnOk result (self.new ≡ flights_touched after.now change self.old touched.now) }
+    {
+        let table = match touched.host {
+            Host::Zero => &mut self.zero,
+            Host::One => &mut self.one,
+        };
+        note_in(table, alloc, change, touched, after)
+    }
+}
+
+// Notes a step at an endpoint of this table. What is kept of it is taken out of the table, and put back.
+fn note_in(
+    table: &mut Table<Flight>,
+    alloc: Global,
+    change: SynChange,
+    touched: &TouchedEndpoint,
+    after: &View,
+) -> Result<(), OutOfMemory>
+    ensures { OnOk result (table.new.entries ≡ insert_entry nat_eq table.old.entries touched.now.place
+        (flight_after change touched.now.event touched.now.before after.now
+        (unwrap_or (lookup (nat_eq touched.now.place) table.old.entries) unflown))) }
+{
+    let number = u64::from(touched.place);
+    let mut flight = match table.replace(number, Flight::new(alloc)) {
+        Some(flight) => flight,
+        None => Flight::new(alloc),
+    };
+    flight.note(change, &touched.event, &touched.before, after)?;
+    table.insert(number, flight)
+}
+
+/// What is kept of data in flight, by endpoints. It takes no room before a step of version 6.
+#[derive(Drop)]
+pub struct Flights {
+    alloc: Global,
+    tables: Option<Box<Tables>>,
+}
+
+impl Model for Flights {
+    ghost use Rattle.std.specs.Option.{option_map_or};
+    ghost use Rattle.spec_flights.specs.Flights.{Flights, start};
+
+    ghost Value = { Flights };
+
+    ghost view = { λ a. option_map_or (λ tables. tables.value) a.tables start };
+}
+
+fn judges(header: &Header) -> bool
+    ensures { result ≡ judges header.now }
+{
+    header.version.says_sender()
+        && match header.congestion {
+            Judged::Full | Judged::Recovery => true,
+            Judged::NoControl => false,
+        }
+}
+
+impl Flights {
+    /// Before the first step.
+    pub fn start(alloc: Global) -> Flights
+        ensures { result ≡ start }
+    {
+        Flights {
+            alloc,
+            tables: None,
+        }
+    }
+
+    // The rule that a step breaks at an endpoint.
+    fn broken_by(&self, touched: &TouchedEndpoint) -> Option<Rule>
+        ensures { result ≡ broken_at touched.now.event touched.now.before
+            (flight_at self.now touched.now.host touched.now.place) }
+    {
+        if let Some(tables) = &self.tables {
+            if let Some(flight) = tables.get(touched.host).get(u64::from(touched.place)) {
+                return flight.broken_at(&touched.event, &touched.before);
+            }
+        }
+        Flight::new(self.alloc).broken_at(&touched.event, &touched.before)
+    }
+
+    /// The rule that a step breaks beside those of the model. None: it breaks none.
+    #[inline(always)]
+    pub fn refusal(&self, header: &Header, seen: &Observation) -> Option<Rule>
+        ensures { result ≡ refusal header.now self.now seen.now }
+    {
+        if !judges(header) {
+            return None;
+        }
+        match &seen.touched {
+            Some(touched) => self.broken_by(touched),
+            None => None,
+        }
+    }
+
+    // The tables, taken out, or new ones.
+    fn take(&mut self) -> Result<Box<Tables>, OutOfMemory>
+        ensures { IfOk result (λ tables. tables.value ≡ self.old) }
+    {
+        match replace(&mut self.tables, None) {
+            Some(tables) => Ok(tables),
+            None => Ok(Box::new(self.alloc, Tables::new(self.alloc))?),
+        }
+    }
+
+    fn note_touched(
+        &mut self,
+        change: SynChange,
+        touched: &TouchedEndpoint,
+        after: &View,
+    ) -> Result<(), OutOfMemory>
+        ensures { OnOk result (self.new ≡ flights_touched after.now change self.old touched.now) }
+    {
+        let alloc = self.alloc;
+        let mut tables = self.take()?;
+        tables.note(alloc, change, touched, after)?;
+        self.tables = Some(tables);
+        Ok(())
+    }
+
+    /// Notes a step, if the endpoint that it touches is then seen like this. In versions 1 to 5 nothing is noted. If
+    /// memory runs out, nothing of it is of use any more.
+    #[inline(always)]
+    pub fn note(
+        &mut self,
+        header: &Header,
+        seen: &Observation,
+        after: &View,
+    ) -> Result<(), OutOfMemory>
+        ensures { OnOk result (self.new ≡ flights_after header.now after.now seen.now self.old) }
+    {
+        if !header.version.says_sender() {
+            return Ok(());
+        }
+        match &seen.touched {
+            Some(touched) => self.note_touched(seen.syn_change, touched, after),
+            None => Ok(()),
+        }
+    }
+}

@@ -1,0 +1,4 @@
+pub mod Sides
+pub mod Recovering
+pub mod Marks
+pub mod Flights

@@ -1,0 +1,24 @@
+//! When outstanding data may be sent again: once for each reason (RFC 6298, 5.4 and 5.5; RFC 5681, 3.2; RFC 6582, 3.2).
+//!
+//! What is kept of data in flight watches the steps of the model, as duties do, and adds refusals; no step has another
+//! effect for it. It is kept in version 6 alone, at every level and slack.
+//!
+//! This crate has no code, only the values that are kept and the definitions. `flights` implements them.
+//!
+//! - `sides`: what the two SYNs permitted; `recovery`: from which loss an endpoint recovers; `stretch`: some positions
+//!
+//! The definitions:
+//!
+//! - `specs/Sides`: which endpoints acknowledge selectively
+//! - `specs/Recovering`: up to which position an endpoint recovers from a loss
+//! - `specs/Marks`: which positions may be sent again, and for which reasons
+//! - `specs/Flights`: what is kept of each endpoint, what it refuses, and what is kept after a step
+#![tactic(auto)]
+
+mod recovery;
+mod sides;
+mod stretch;
+
+pub use recovery::Recovery;
+pub use sides::Sides;
+pub use stretch::Stretch;
