@@ -178,16 +178,16 @@ pub(crate) fn admits_owed(
 
 #[inline(always)]
 pub(crate) fn owed_open(
-    strict: bool,
     touched: &TouchedEndpoint,
     after: &View,
     moment: u64,
     listener_closed: Option<u64>,
+    strict: bool,
     counts: bool,
     owed: &Owed,
 ) -> Owed
     ensures { result
-        ≡ owed_open strict touched.now.event touched.now.before after.now moment listener_closed counts owed.now }
+        ≡ owed_open touched.now.event touched.now.before after.now moment listener_closed strict counts owed.now }
 {
     let (event, before) = (&touched.event, &touched.before);
     Owed {
@@ -228,23 +228,23 @@ fn once_closed(owed: Owed) -> Owed
 /// it sends a mere acknowledgment.
 #[inline(always)]
 pub(crate) fn owed_after(
-    strict: bool,
     touched: &TouchedEndpoint,
     after: &View,
     moment: u64,
     listener_closed: Option<u64>,
+    strict: bool,
     counts: bool,
     owed: &Owed,
 ) -> Owed
     ensures { result
-        ≡ owed_after strict touched.now.event touched.now.before after.now moment listener_closed counts owed.now }
+        ≡ owed_after touched.now.event touched.now.before after.now moment listener_closed strict counts owed.now }
 {
     let next = owed_open(
-        strict,
         touched,
         after,
         moment,
         listener_closed,
+        strict,
         counts,
         owed,
     );

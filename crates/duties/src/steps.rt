@@ -545,18 +545,18 @@ fn note_in(
     after: &View,
 ) -> Result<(), OutOfMemory>
     ensures { OnOk result (table.new.entries ≡ insert_entry nat_eq table.old.entries touched.now.place
-        (owed_after strict touched.now.event touched.now.before after.now moment listener_closed counts
+        (owed_after touched.now.event touched.now.before after.now moment listener_closed strict counts
         (unwrap_or (lookup (nat_eq touched.now.place) table.old.entries) nothing))) }
 {
     let number = u64::from(touched.place);
     if !after.state.is_closed() {
         if let Some(owed) = table.get(number) {
             let next = owed_open(
-                strict,
                 touched,
                 after,
                 moment,
                 listener_closed,
+                strict,
                 counts,
                 owed,
             );
@@ -565,11 +565,11 @@ fn note_in(
     }
     let owed = owed_in(table, number);
     let next = owed_after(
-        strict,
         touched,
         after,
         moment,
         listener_closed,
+        strict,
         counts,
         &owed,
     );

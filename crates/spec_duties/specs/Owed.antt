@@ -66,9 +66,9 @@ late_rules l =
     ∷ (rules.ProbeLate, l.probe) ∷ (rules.StartLate, l.start) ∷ (rules.ResetLate, l.reset) ∷ []
 
 -- what is owed after a step at an endpoint; `strict`: in version 6
-abbrev pub owed_open : (strict : Bool) → Event → (before after : View) → (moment : ℕ) → (listener_closed : Option ℕ) → (counts : Bool)
+abbrev pub owed_open : Event → (before after : View) → (moment : ℕ) → (listener_closed : Option ℕ) → (strict counts : Bool)
     → Owed → Owed
-owed_open strict event before after moment listener_closed counts o = record {
+owed_open event before after moment listener_closed strict counts o = record {
   acknowledge = acknowledge_after event before.state moment o.acknowledged o.acknowledge;
   opened = opened_after before after moment o.opened;
   retransmit = retransmit_after event before after moment o.retransmit;
@@ -86,8 +86,8 @@ abbrev pub once_closed : Owed → Owed
 once_closed o =
     record o { acknowledge = None; retransmit = None; probe = None; probing = None; start = None }
 
-abbrev pub owed_after : (strict : Bool) → Event → (before after : View) → (moment : ℕ) → (listener_closed : Option ℕ) → (counts : Bool)
+abbrev pub owed_after : Event → (before after : View) → (moment : ℕ) → (listener_closed : Option ℕ) → (strict counts : Bool)
     → Owed → Owed
-owed_after strict event before after moment listener_closed counts o =
-    if is_closed after.state then once_closed (owed_open strict event before after moment listener_closed counts o)
-    else owed_open strict event before after moment listener_closed counts o
+owed_after event before after moment listener_closed strict counts o =
+    if is_closed after.state then once_closed (owed_open event before after moment listener_closed strict counts o)
+    else owed_open event before after moment listener_closed strict counts o

@@ -176,7 +176,7 @@ abbrev pub owed_table_after : (strict : Bool) → (after : View) → (moment : �
 owed_table_after strict after moment counts d t =
     with_host d.owed t.host
     (insert_entry nat_eq (pick d.owed t.host) t.place
-    (owed_after strict t.event t.before after moment (listener_closed d t.host t.before) counts (owed_by d t.host t.place)))
+    (owed_after t.event t.before after moment (listener_closed d t.host t.before) strict counts (owed_by d t.host t.place)))
 
 -- the listener for which an endpoint counts: until it is accepted or CLOSED
 abbrev pub counts_for : View → Option ℕ

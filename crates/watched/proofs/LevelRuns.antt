@@ -57,20 +57,20 @@ use Rattle.watched.proofs.WaitLemmas.{any_same, same_by, waits_alike, waits_same
 
 -- ---- what is kept doesn't depend on the edge
 
-owed_same : (strict : Bool) (event : Event) (a b : ℕ) (before after : View) (moment : ℕ) (closed : Option ℕ) (counts : Bool) (o : Owed)
-    → owed_after strict event (view_with a before) (view_with b after) moment closed counts o ≡ owed_after strict event before after moment closed counts o
-owed_same strict Opens a b before after moment closed counts o = refl
-owed_same strict (Calls abort) a b before after moment closed counts o = refl
-owed_same strict (Processes length rst) a b before after moment closed counts o = refl
-owed_same strict (Drops asks unlimited) a b before after moment closed counts o = refl
-owed_same strict (Builds m) a b before after moment closed counts o = refl
-owed_same strict (Sends s) a b before after moment closed counts o = refl
-owed_same strict (Expires Rto) a b before after moment closed counts o = refl
-owed_same strict (Expires Persist) a b before after moment closed counts o = refl
-owed_same strict (Expires Msl2) a b before after moment closed counts o = refl
-owed_same strict (Expires Giveup) a b before after moment closed counts o = refl
-owed_same strict (Expires Pto) a b before after moment closed counts o = refl
-owed_same strict Recovers a b before after moment closed counts o = refl
+owed_same : (event : Event) (a b : ℕ) (before after : View) (moment : ℕ) (closed : Option ℕ) (strict counts : Bool) (o : Owed)
+    → owed_after event (view_with a before) (view_with b after) moment closed strict counts o ≡ owed_after event before after moment closed strict counts o
+owed_same Opens a b before after moment closed strict counts o = refl
+owed_same (Calls abort) a b before after moment closed strict counts o = refl
+owed_same (Processes length rst) a b before after moment closed strict counts o = refl
+owed_same (Drops asks unlimited) a b before after moment closed strict counts o = refl
+owed_same (Builds m) a b before after moment closed strict counts o = refl
+owed_same (Sends s) a b before after moment closed strict counts o = refl
+owed_same (Expires Rto) a b before after moment closed strict counts o = refl
+owed_same (Expires Persist) a b before after moment closed strict counts o = refl
+owed_same (Expires Msl2) a b before after moment closed strict counts o = refl
+owed_same (Expires Giveup) a b before after moment closed strict counts o = refl
+owed_same (Expires Pto) a b before after moment closed strict counts o = refl
+owed_same Recovers a b before after moment closed strict counts o = refl
 
 mere_same : (a b : ℕ) (after : View) (t : TouchedEndpoint) → builds_mere_ack (view_with b after) (touched_with a t) ≡ builds_mere_ack after t
 mere_same a b after t = by t.event
@@ -194,7 +194,7 @@ duties_same strict slack a b after moment s d =
         }
     by None = refl
     by (Some t) =
-        rw (owed_same strict t.event a b t.before after moment _ _ _) refl
+        rw (owed_same t.event a b t.before after moment _ _ _ _) refl
 
 -- ---- if less is judged, no more rules are broken
 
