@@ -86,7 +86,8 @@ answers_is : (event : Event) (before after : View) (moment : ℕ) (listener : Op
 answers_is event before after moment listener strict counts o = by (is_closed after.state)
   where
     by : (c : Bool)
-        → (if c then once_closed (owed_open event before after moment listener strict counts o) else owed_open event before after moment listener strict counts o).answers
+        → (if c then once_closed (owed_open event before after moment listener strict counts o)
+        else owed_open event before after moment listener strict counts o).answers
         ≡ answers_after event before counts o.answers
     by true = refl
     by false = refl

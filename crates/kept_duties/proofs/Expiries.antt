@@ -103,7 +103,8 @@ expiry_wait : (since from slack : ℕ) (first : View) → since ≤ from
     → Wait (λ o. o.opened ≤ from) TimesOut (λ v. not (runs_on since first v)) (λ l. l.expire) slack (from + run_time first + slack)
 expiry_wait since from slack first low = record { onward = onward'; rules = λ l all. all.1.0; either = λ a b. refl; fine = fine }
   where
-    onward' : (event : Event) (before after : View) (moment : ℕ) (listener : Option ℕ) (strict counts : Bool) (o : Owed) → not (runs_on since first before) ≡ false
+    onward' : (event : Event) (before after : View) (moment : ℕ) (listener : Option ℕ) (strict counts : Bool) (o : Owed)
+        → not (runs_on since first before) ≡ false
         → o.opened ≤ from
         → TimesOut event before after ⊎ (not (runs_on since first after) ≡ true)
         ⊎ ((owed_after event before after moment listener strict counts o).opened ≤ from)

@@ -215,7 +215,8 @@ module _ (t : Trace) (w : Witness) (slack : ℕ) (r : Run t.header slack (length
           let here : event_for me (observe t.header x.moment (known_before t w j).model x.step).touched ≡ Some touch.event =
           ap (event_for me) touch.shows ∙ event_here (known_before t w j).model me touch.event in
           ap (λ (o : Owed). o.probing) owes.after
-          ∙ probing_is touch.event before after x.moment owes.listener owes.strict owes.counts (owed_by (known_before t w j).duties me.host me.number) probes old
+          ∙ probing_is touch.event before after x.moment owes.listener owes.strict owes.counts
+          (owed_by (known_before t w j).duties me.host me.number) probes old
           ∙ ap (λ (v : World tcp_shape). option_map probing_of (probes_after touch.event (seen v me) after x.moment probes)) (world_is t w j)
           ∙ ap (λ (v : World tcp_shape). option_map probing_of (probes_after touch.event (seen_before t w j me) (seen v me) x.moment probes))
           (world_is t w (suc j))

@@ -35,7 +35,8 @@ again_is : (event : Event) (before after : View) (moment : ℕ) (listener : Opti
 again_is event before after moment listener strict counts o = by (is_closed after.state)
   where
     by : (c : Bool)
-        → (if c then once_closed (owed_open event before after moment listener strict counts o) else owed_open event before after moment listener strict counts o).again
+        → (if c then once_closed (owed_open event before after moment listener strict counts o)
+        else owed_open event before after moment listener strict counts o).again
         ≡ again_after strict event before after o.again
     by true = refl
     by false = refl

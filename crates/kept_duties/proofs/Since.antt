@@ -192,8 +192,8 @@ module _ (t : Trace) (w : Witness) (slack : ℕ) (r : Run t.header slack (length
         next j x is goes all since now (inr same) = began_before t w j since (all since (sym (ap get same.0) ∙ now))
         next j x is goes all since now (inl at) =
             let owes = owes_of t w slack r j x me at.event is at.shows in
-            by (duty.back at.event (seen (known_before t w j).model me) (seen (known_before t w (suc j)).model me) x.moment owes.listener owes.strict owes.counts
-            (owed_by (known_before t w j).duties me.host me.number) since (sym (ap get owes.after) ∙ now))
+            by (duty.back at.event (seen (known_before t w j).model me) (seen (known_before t w (suc j)).model me) x.moment
+            owes.listener owes.strict owes.counts (owed_by (known_before t w j).duties me.host me.number) since (sym (ap get owes.after) ∙ now))
           where
             by : (since ≡ x.moment) ⊎ (since_at (known_before t w j) ≡ Some since) → Began t w (suc j) since
             by (inl here) = began_now t w j x is since here
@@ -288,7 +288,8 @@ module _ (t : Trace) (w : Witness) (slack : ℕ) (r : Run t.header slack (length
                 still.owes
 
             ends : Kind touch.event before after' ⊎ (Is after' ≡ true)
-                ⊎ Inv (owed_after touch.event before after' y.moment owes.listener owes.strict owes.counts (owed_by (known_before t w j).duties me.host me.number))
+                ⊎ Inv (owed_after touch.event before after' y.moment owes.listener owes.strict owes.counts
+                (owed_by (known_before t w j).duties me.host me.number))
                 → Goes_on (known_before t w (suc j))
             ends (inl kind) = inl (record {
               later = j;

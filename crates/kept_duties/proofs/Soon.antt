@@ -51,7 +51,8 @@ pub open_or_closed : (P : Owed → Type 0) (event : Event) (before after : View)
 open_or_closed P event before after moment listener strict counts o closed open' = by (is_closed after.state) refl
   where
     by : (c : Bool) → is_closed after.state ≡ c
-        → P (if c then once_closed (owed_open event before after moment listener strict counts o) else owed_open event before after moment listener strict counts o)
+        → P (if c then once_closed (owed_open event before after moment listener strict counts o)
+        else owed_open event before after moment listener strict counts o)
     by true is = closed is
     by false is = open'
 
@@ -144,7 +145,8 @@ acknowledge_onward : (event : Event) (before after : View) (moment : ℕ) (liste
     ≡ Some since
     → Answers event before after ⊎ (is_closed after.state ≡ true) ⊎ ((owed_after event before after moment listener strict counts o).acknowledge ≡ Some since)
 acknowledge_onward event before after moment listener strict counts o since is =
-    open_or_closed (λ n. Answers event before after ⊎ (is_closed after.state ≡ true) ⊎ (n.acknowledge ≡ Some since)) event before after moment listener strict counts o
+    open_or_closed (λ n. Answers event before after ⊎ (is_closed after.state ≡ true)
+        ⊎ (n.acknowledge ≡ Some since)) event before after moment listener strict counts o
     (λ closed. inr (inl closed)) (by (is_answer event) refl)
   where
     asks : (b : Bool) → (if b then option_or o.acknowledge (Some moment) else o.acknowledge) ≡ Some since
@@ -194,9 +196,11 @@ acknowledge_duty = record {
 }
 
 -- what is received is to be acknowledged
-acknowledge_begins : (length : ℕ) (before after : View) (moment : ℕ) (listener : Option ℕ) (strict counts : Bool) (o : Owed) → 0 < length → receives before.state
+acknowledge_begins : (length : ℕ) (before after : View) (moment : ℕ) (listener : Option ℕ) (strict counts : Bool) (o : Owed) → 0 < length
+    → receives before.state
     ≡ true
-    → (is_closed after.state ≡ true) ⊎ ((since : ℕ) × ((owed_after (Processes length false) before after moment listener strict counts o).acknowledge ≡ Some since))
+    → (is_closed after.state ≡ true) ⊎ ((since : ℕ)
+    × ((owed_after (Processes length false) before after moment listener strict counts o).acknowledge ≡ Some since))
 acknowledge_begins length before after moment listener strict counts o some receives' =
     open_or_closed (λ n. (is_closed after.state ≡ true) ⊎ ((since : ℕ) × (n.acknowledge ≡ Some since)))
     (Processes length false) before after moment listener strict counts o
@@ -217,8 +221,10 @@ since_now (Some m) moment = (m, refl)
 
 -- ---- retransmit
 
-retransmit_onward : (event : Event) (before after : View) (moment : ℕ) (listener : Option ℕ) (strict counts : Bool) (o : Owed) (since : ℕ) → o.retransmit ≡ Some since
-    → SendsOldest event before after ⊎ (is_closed after.state ≡ true) ⊎ ((owed_after event before after moment listener strict counts o).retransmit ≡ Some since)
+retransmit_onward : (event : Event) (before after : View) (moment : ℕ) (listener : Option ℕ) (strict counts : Bool) (o : Owed) (since : ℕ)
+    → o.retransmit ≡ Some since
+    → SendsOldest event before after ⊎ (is_closed after.state ≡ true)
+    ⊎ ((owed_after event before after moment listener strict counts o).retransmit ≡ Some since)
 retransmit_onward event before after moment listener strict counts o since is =
     open_or_closed (λ n. SendsOldest event before after ⊎ (is_closed after.state ≡ true)
     ⊎ (n.retransmit ≡ Some since)) event before after moment listener strict counts o
@@ -260,7 +266,8 @@ retransmit_duty = record {
 retransmit_begins : (before after : View) (moment : ℕ) (listener : Option ℕ) (strict counts : Bool) (o : Owed)
     → (is_closed after.state ≡ true) ⊎ ((since : ℕ) × ((owed_after (Expires Rto) before after moment listener strict counts o).retransmit ≡ Some since))
 retransmit_begins before after moment listener strict counts o =
-    open_or_closed (λ n. (is_closed after.state ≡ true) ⊎ ((since : ℕ) × (n.retransmit ≡ Some since))) (Expires Rto) before after moment listener strict counts o
+    open_or_closed (λ n. (is_closed after.state ≡ true) ⊎ ((since : ℕ)
+        × (n.retransmit ≡ Some since))) (Expires Rto) before after moment listener strict counts o
     (λ closed. inl closed) (inr (since_now o.retransmit moment))
 
 -- ---- probe
@@ -268,7 +275,8 @@ retransmit_begins before after moment listener strict counts o =
 probe_onward : (event : Event) (before after : View) (moment : ℕ) (listener : Option ℕ) (strict counts : Bool) (o : Owed) (since : ℕ) → o.probe ≡ Some since
     → SendsAnything event before after ⊎ (is_closed after.state ≡ true) ⊎ ((owed_after event before after moment listener strict counts o).probe ≡ Some since)
 probe_onward event before after moment listener strict counts o since is =
-    open_or_closed (λ n. SendsAnything event before after ⊎ (is_closed after.state ≡ true) ⊎ (n.probe ≡ Some since)) event before after moment listener strict counts o
+    open_or_closed (λ n. SendsAnything event before after ⊎ (is_closed after.state ≡ true)
+        ⊎ (n.probe ≡ Some since)) event before after moment listener strict counts o
     (λ closed. inr (inl closed)) (by (is_probe_timeout event) (is_sending event || acknowledges_more before after) refl)
   where
     by : (a b : Bool) → (is_sending event || acknowledges_more before after) ≡ b
@@ -315,7 +323,8 @@ probe_begins before after moment listener strict counts o =
 start_onward : (event : Event) (before after : View) (moment : ℕ) (listener : Option ℕ) (strict counts : Bool) (o : Owed) (since : ℕ) → o.start ≡ Some since
     → IsNotIdle event before after ⊎ (is_closed after.state ≡ true) ⊎ ((owed_after event before after moment listener strict counts o).start ≡ Some since)
 start_onward event before after moment listener strict counts o since is =
-    open_or_closed (λ n. IsNotIdle event before after ⊎ (is_closed after.state ≡ true) ⊎ (n.start ≡ Some since)) event before after moment listener strict counts o
+    open_or_closed (λ n. IsNotIdle event before after ⊎ (is_closed after.state ≡ true)
+        ⊎ (n.start ≡ Some since)) event before after moment listener strict counts o
     (λ closed. inr (inl closed)) (by (is_idle_with_work after) refl)
   where
     by : (b : Bool) → is_idle_with_work after ≡ b

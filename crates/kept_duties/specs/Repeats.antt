@@ -28,8 +28,8 @@ NothingBegins t w me from to =
     (place moment : ℕ) (event : Event) → from < place → place < to → Happens t w place moment me event
     → begins event (seen_before t w place me) (seen_before t w (suc place) me) ≡ false
 
--- a segment is built with positions that were built before; a SYN with ACK or a reset may be repeated at any time, and in
--- version 6 a FIN alone, too (RFC 9293, 3.10.4)
+-- a segment is built with positions that were built before; a SYN with ACK or a reset may be repeated at any time, and
+-- in version 6 a FIN alone, too (RFC 9293, 3.10.4)
 pub record BuildsAgain (t : Trace) (w : Witness) (place : ℕ) (me : EndpointId) (m : SegmentPlan) : Type 0 where
   pub moment : ℕ
   pub happens : Happens t w place moment me (Builds m)

@@ -66,8 +66,8 @@ late_rules l =
     ∷ (rules.ProbeLate, l.probe) ∷ (rules.StartLate, l.start) ∷ (rules.ResetLate, l.reset) ∷ []
 
 -- what is owed after a step at an endpoint; `strict`: in version 6
-abbrev pub owed_open : Event → (before after : View) → (moment : ℕ) → (listener_closed : Option ℕ) → (strict counts : Bool)
-    → Owed → Owed
+abbrev pub owed_open : Event → (before after : View) → (moment : ℕ) → (listener_closed : Option ℕ)
+    → (strict counts : Bool) → Owed → Owed
 owed_open event before after moment listener_closed strict counts o = record {
   acknowledge = acknowledge_after event before.state moment o.acknowledged o.acknowledge;
   opened = opened_after before after moment o.opened;
@@ -86,8 +86,8 @@ abbrev pub once_closed : Owed → Owed
 once_closed o =
     record o { acknowledge = None; retransmit = None; probe = None; probing = None; start = None }
 
-abbrev pub owed_after : Event → (before after : View) → (moment : ℕ) → (listener_closed : Option ℕ) → (strict counts : Bool)
-    → Owed → Owed
+abbrev pub owed_after : Event → (before after : View) → (moment : ℕ) → (listener_closed : Option ℕ)
+    → (strict counts : Bool) → Owed → Owed
 owed_after event before after moment listener_closed strict counts o =
     if is_closed after.state then once_closed (owed_open event before after moment listener_closed strict counts o)
     else owed_open event before after moment listener_closed strict counts o

@@ -171,12 +171,13 @@ duty_rules h slack moment d s =
     (touched_rules h slack moment d (counts_now (built_by d s.built_change)) (sent_by d s.built_change) s.sampling)
 
 -- what is owed after a step at an endpoint, which is then seen like this; `strict`: in version 6
-abbrev pub owed_table_after : (strict : Bool) → (after : View) → (moment : ℕ) → (counts : Bool) → Duties → TouchedEndpoint
-    → Both (List (ℕ × Owed))
+abbrev pub owed_table_after : (strict : Bool) → (after : View) → (moment : ℕ) → (counts : Bool) → Duties
+    → TouchedEndpoint → Both (List (ℕ × Owed))
 owed_table_after strict after moment counts d t =
     with_host d.owed t.host
     (insert_entry nat_eq (pick d.owed t.host) t.place
-    (owed_after t.event t.before after moment (listener_closed d t.host t.before) strict counts (owed_by d t.host t.place)))
+    (owed_after t.event t.before after moment (listener_closed d t.host t.before) strict counts
+    (owed_by d t.host t.place)))
 
 -- the listener for which an endpoint counts: until it is accepted or CLOSED
 abbrev pub counts_for : View → Option ℕ

@@ -159,7 +159,8 @@ module _ (v : Version) (e : Endpoint) (pos len : ℕ) (ack fin : Bool) (window :
       else ((nat_lt pos e.stream.snd_una || nat_lt (snd_max e) pos)
       || (nat_lt pos (snd_max e) && not (may_repeat_fin v (snd_max e) m) && nat_lt e.recover (old_end e m)))) ≡ false)
       (is_zero (making_length m) some) t.1.1.1.1.1.0 in
-      let both = neither (nat_lt pos e.stream.snd_una || nat_lt (snd_max e) pos) (nat_lt pos (snd_max e) && not (may_repeat_fin v (snd_max e) m) && nat_lt e.recover (old_end e m)) place in
+      let both = neither (nat_lt pos e.stream.snd_una || nat_lt (snd_max e) pos)
+      (nat_lt pos (snd_max e) && not (may_repeat_fin v (snd_max e) m) && nat_lt e.recover (old_end e m)) place in
       let low = neither (nat_lt pos e.stream.snd_una) (nat_lt (snd_max e) pos) both.0 in
       let fresh : 0 < len → snd_max e < pos + len → (nat_lt 0 len && nat_lt (snd_max e) (pos + len)) ≡ true =
       λ p q. rw (is_less 0 len p, is_less (snd_max e) (pos + len) q) refl in
@@ -408,15 +409,18 @@ plain_may p q e new v w m fin h past =
     let r : Room e m.pos m.len fin = room p e m.pos m.len m.flags.ack fin m.window m.iss m.shift h (not_empty p e m fin h past) in
     let low = r.max in
     by_test (nat_lt (snd_max e) (m.pos + m.len))
-    (λ is. let new_end : snd_max e < m.pos + m.len = is_more (snd_max e) (m.pos + m.len) is in inr (inl (byte_may q e m.pos m.len w fin r (omega arith) new_end)))
+    (λ is. let new_end : snd_max e < m.pos + m.len = is_more (snd_max e) (m.pos + m.len) is in
+    inr (inl (byte_may q e m.pos m.len w fin r (omega arith) new_end)))
     (λ is. let fins = spent (snd_max e) m.pos m.len fin past is in
     inr (inr (fin_may q e m.pos m.len w (subst (λ (b : Bool). Room e m.pos m.len b) fins.0 r) fins.1)))
 
 pub one_may : (p q : Version) (e : Endpoint) (new : SynOptions) (v w : ℕ) (m : SegmentPlan) → m.flags.rst ≡ false
     → first_broken (making_rules p e m) ≡ None → snd_max e < m.pos + making_length m → OneMay q e new v w
-one_may p q e new v w m rst h past = by m.flags.syn (subst (λ (b : Bool). first_broken (making_rules p e (flagged m b m.flags.syn m.flags.fin)) ≡ None) rst h) past
+one_may p q e new v w m rst h past =
+    by m.flags.syn (subst (λ (b : Bool). first_broken (making_rules p e (flagged m b m.flags.syn m.flags.fin)) ≡ None) rst h) past
   where
-    by : (syn : Bool) → first_broken (making_rules p e (flagged m false syn m.flags.fin)) ≡ None → snd_max e < reach m syn m.flags.fin → OneMay q e new v w
+    by : (syn : Bool) → first_broken (making_rules p e (flagged m false syn m.flags.fin)) ≡ None → snd_max e < reach m syn m.flags.fin
+        → OneMay q e new v w
     by true h past = inl (syn_may p q e m.pos m.len m.window v m.flags.ack m.flags.fin m.iss m.shift new h past)
     by false h past = plain_may p q e new v w m m.flags.fin h past
 
@@ -478,9 +482,11 @@ nothing h me w tried m e rst found past permitted = refute (one_may h.version h.
     found2 = subst (λ (l : ℕ). endpoint_of b l e.rport ≡ Some e) (sym at.2) (subst (λ (r : ℕ). endpoint_of b m.lport r ≡ Some e) (sym at.3) found)
 
     may : first_broken (making_rules h.version e m) ≡ None
-    may = subst (λ (o : Option Endpoint). first_broken (option_map_or (λ x. making_rules h.version x m) o ((rules.NoEndpoint, true) ∷ [])) ≡ None) found permitted
+    may = subst (λ (o : Option Endpoint).
+    first_broken (option_map_or (λ x. making_rules h.version x m) o ((rules.NoEndpoint, true) ∷ [])) ≡ None) found permitted
 
-    back : (c : SegmentPlan) → c.lport ≡ e.lport → c.rport ≡ e.rport → first_broken (making_rules h.version e c) ≡ None → Permitted (tcp h) 0 w (At me (Makes c))
+    back : (c : SegmentPlan) → c.lport ≡ e.lport → c.rport ≡ e.rport → first_broken (making_rules h.version e c) ≡ None
+        → Permitted (tcp h) 0 w (At me (Makes c))
     back c l r is =
         subst (λ (o : Option Endpoint).
         first_broken (option_map_or (λ x. making_rules h.version x c) o ((rules.NoEndpoint, true) ∷ [])) ≡ None)
@@ -518,7 +524,8 @@ far h me w m fin all some above ends permitted = by (endpoint_of (pick w.hosts m
     by None is may = absurd cc
     by (Some e) is may =
         let place = of_ports (pick w.hosts me).body m.lport m.rport e is in
-        too_far e (short_at IsShort (pick w.hosts me).body.endpoints place.0 e place.1 all) (room h.version e m.pos m.len m.flags.ack fin m.window m.iss m.shift may some)
+        too_far e (short_at IsShort (pick w.hosts me).body.endpoints place.0 e place.1 all)
+        (room h.version e m.pos m.len m.flags.ack fin m.window m.iss m.shift may some)
 
 -- an endpoint with more than that was tried where its SYN was
 pub tried_far : (h : Header) (me : Host) (w : World tcp_shape) (opening : SynOptions) (window : ℕ) (e : Endpoint)
