@@ -20,17 +20,22 @@ use crate::makes::kind::{
     close_after_reset, given_shift, is_bad_iss, makes_nothing, may_make, seq_of,
 };
 use crate::makes::payload::{has_new_bytes, is_bad_payload, is_bad_place, making_length};
-use case_forms::{SegmentPlan, Timer};
+use case_forms::{SegmentPlan, Timer, Version};
 use segment::{Bytes, OutOfMemory};
 use spec_tcp::{Emission, Endpoint, EndpointId};
 use std::alloc::Global;
 use timer_rules::Timers;
 use verdict::Rule;
 
-/// Whether an endpoint may build a segment; the error is the first rule that it breaks, in the order of `Rule`.
-pub fn admits_making(endpoint: &Endpoint, making: &SegmentPlan) -> Result<(), Rule>
+/// Whether an endpoint may build a segment, in a text of this version; the error is the first rule that it breaks, in
+/// the order of `Rule`.
+pub fn admits_making(
+    version: Version,
+    endpoint: &Endpoint,
+    making: &SegmentPlan,
+) -> Result<(), Rule>
     requires { IsSmall endpoint.now making.now }
-    ensures { result_err result ≡ first_broken (making_rules endpoint.now making.now) }
+    ensures { result_err result ≡ first_broken (making_rules version endpoint.now making.now) }
 {
     if makes_nothing(endpoint, making) {
         return Err(Rule::NoEndpoint);
@@ -47,7 +52,7 @@ pub fn admits_making(endpoint: &Endpoint, making: &SegmentPlan) -> Result<(), Ru
     if is_bad_ack(endpoint, making) {
         return Err(Rule::AckField);
     }
-    if is_bad_place(endpoint, making) {
+    if is_bad_place(version, endpoint, making) {
         return Err(Rule::OldData);
     }
     if is_beyond_offer(endpoint, making) {

@@ -30,7 +30,7 @@ use crate::fault::StepFault;
 use crate::host_tcp::HostTcp;
 use crate::made::{Made, admitted_sending, mark};
 use case_forms::{
-    Answer, Call, Expired, Header, Host, Ports, Recovery, SegmentPlan, TakeChoice, Wire,
+    Answer, Call, Expired, Header, Host, Ports, Recovery, SegmentPlan, TakeChoice, Version, Wire,
 };
 use endpoint::{reset_of, sent};
 use segment::OutOfMemory;
@@ -65,10 +65,11 @@ impl Model for HostState {
     } };
 }
 
-/// A segment is made under this number, and waits to be sent. The error is the first broken rule, or that memory ran
-/// out; nothing is changed then.
+/// A segment is made under this number, in a text of this version, and waits to be sent. The error is the first broken
+/// rule, or that memory ran out; nothing is changed then.
 pub(crate) fn make(
     alloc: Global,
+    version: Version,
     me: Host,
     host: &mut HostState,
     plan: &SegmentPlan,
@@ -78,12 +79,12 @@ pub(crate) fn make(
     requires ready { IsReady host.old }
     requires small { plan.now.pos ≤ greatest_position }
     ensures fault { fault_rule result ≡ first_broken
-        (rules_at host.old.body plan.now.lport plan.now.rport (λ e. making_rules e plan.now)) }
+        (rules_at host.old.body plan.now.lport plan.now.rport (λ e. making_rules version e plan.now)) }
     ensures ok { OnOk result (host.new ≡ forget_host (made_one me moment fresh plan.now host.old)) }
     ensures small { OnOk result (IfSome (act_makes me host.old.body (acts.Makes plan.now)) IsSmallEmission) }
     ensures err { OnErr result (host.new ≡ host.old) }
 {
-    let number = host.body.admitted_making(plan)?;
+    let number = host.body.admitted_making(version, plan)?;
     host.made.reserve(u64::from(fresh))?;
     let me = EndpointId { host: me, number };
     let emission = host.body.make_at(alloc, me, plan, moment)?;
@@ -327,14 +328,14 @@ impl HostState {
         admitted_arrival(header, moment, &self.wire, copied, wire)
     }
 
-    /// Whether it may make a segment. The error is the first broken rule.
-    pub(crate) fn admits_making(&self, plan: &SegmentPlan) -> Result<(), Rule>
+    /// Whether it may make a segment, in a text of this version. The error is the first broken rule.
+    pub(crate) fn admits_making(&self, version: Version, plan: &SegmentPlan) -> Result<(), Rule>
         requires ready { IsReady self.now }
         requires small { plan.now.pos ≤ greatest_position }
         ensures { result_err result ≡ first_broken
-            (rules_at self.now.body plan.now.lport plan.now.rport (λ e. making_rules e plan.now)) }
+            (rules_at self.now.body plan.now.lport plan.now.rport (λ e. making_rules version e plan.now)) }
     {
-        self.body.admitted_making(plan)?;
+        self.body.admitted_making(version, plan)?;
         Ok(())
     }
 

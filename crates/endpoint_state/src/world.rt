@@ -210,7 +210,9 @@ impl World {
         ensures { result_err result ≡ first_broken
             (step_rules (tcp self.now.header) 0 self.now.world (At host (Makes plan.now))) }
     {
-        self.hosts.near(host).admits_making(plan)
+        self.hosts
+            .near(host)
+            .admits_making(self.header.version, plan)
     }
 
     /// Whether a host may take the segment that arrived with this line, at a moment in microseconds. The error is the
@@ -308,7 +310,16 @@ impl World {
         ensures err { OnErr result (self.new ≡ self.old) }
     {
         let fresh = self.count + 1;
-        host::make(self.alloc, host, self.hosts.side(host), plan, moment, fresh)?;
+        let version = self.header.version;
+        host::make(
+            self.alloc,
+            version,
+            host,
+            self.hosts.side(host),
+            plan,
+            moment,
+            fresh,
+        )?;
         self.count = fresh;
         self.steps += 1;
         Ok(())

@@ -6,6 +6,7 @@ use Rattle.std.specs.Prelude.{ℕ, ◌+◌, nat_lt, max, Bool, false, not, ◌&&
 use Rattle.std.specs.Option.{option_or}
 use Rattle.case_forms.specs.declared.steps.SegmentPlan.{SegmentPlan}
 use Rattle.case_forms.specs.declared.timer.Timer.TheVariants.{Rto}
+use Rattle.case_forms.specs.declared.version.Version.{Version}
 use Rattle.verdict.specs.declared.rule.Rule.{Rule}
 use Rattle.verdict.specs.declared.rule.Rule.TheVariants as rules
 use Rattle.streams.specs.Transmissions.{made}
@@ -19,10 +20,10 @@ use Rattle.spec_tcp.specs.Makes.Payload.{making_length, has_new_bytes, is_bad_pa
 use Rattle.spec_tcp.specs.Makes.Edges.{is_bad_ack, own_window, is_beyond_offer, is_congesting}
 
 -- the rules of building a segment, at the endpoint at these ports
-abbrev pub making_rules : Endpoint → SegmentPlan → List (Rule × Bool)
-making_rules e m =
+abbrev pub making_rules : Version → Endpoint → SegmentPlan → List (Rule × Bool)
+making_rules v e m =
     (rules.NoEndpoint, makes_nothing e m) ∷ (rules.State, not (may_make e m)) ∷ (rules.Iss, is_bad_iss e m)
-    ∷ (rules.PayloadRange, is_bad_payload e m) ∷ (rules.AckField, is_bad_ack e m) ∷ (rules.OldData, is_bad_place e m)
+    ∷ (rules.PayloadRange, is_bad_payload e m) ∷ (rules.AckField, is_bad_ack e m) ∷ (rules.OldData, is_bad_place v e m)
     ∷ (rules.Offered, is_beyond_offer e m) ∷ (rules.Congestion, is_congesting e m)
     ∷ (rules.Size, nat_lt e.control.values.smss m.len) ∷ []
 

@@ -80,7 +80,7 @@ ascend_host_step h host moment far k (Does x) =
 ascend_host_step h host moment far k (Expires line x) =
     ascend_or (λ e. expiry_rules h moment e x.expired) ((rules.NoEndpoint, true) ∷ []) (endpoint_of k.body x.lport x.rport) refl (λ e. refl)
 ascend_host_step h host moment far k (Makes m) =
-    ascend_or (λ e. making_rules e m) ((rules.NoEndpoint, true) ∷ []) (endpoint_of k.body m.lport m.rport) refl (λ e. refl)
+    ascend_or (λ e. making_rules h.version e m) ((rules.NoEndpoint, true) ∷ []) (endpoint_of k.body m.lport m.rport) refl (λ e. refl)
 ascend_host_step h host moment far k (Sends line number wire) = ascend_on _ ((rules.NotMade, true) ∷ []) (lookup (nat_eq number) k.made) refl (λ m. refl)
 ascend_host_step h host moment far k (Gets line copied wire) = ascend_on _ ((rules.NoEmission, true) ∷ []) (lookup (nat_eq copied) far) refl (λ m. refl)
 ascend_host_step h host moment far k (Hears line wire) = refl

@@ -21,6 +21,7 @@ use Rattle.case_forms.specs.declared.steps.SegmentPlan.{SegmentPlan}
 use Rattle.spec_tcp.specs.Makes.Payload.{is_bad_payload, is_bad_place}
 use Rattle.spec_tcp.specs.Makes.{making_rules, emission_of, after_making}
 use Rattle.case_forms.specs.declared.steps.TakeChoice.{TakeChoice}
+use Rattle.case_forms.specs.declared.version.Version.{Version}
 use Rattle.spec_tcp.specs.Arrives.OtherStates.{connected_rules}
 use Rattle.spec_tcp.specs.Arrives.SynSent.{syn_sent_rules}
 use Rattle.spec_tcp.specs.Heard.{as_read}
@@ -102,7 +103,7 @@ nothing-forget m (AtEndpoint i e) = refl
 
 pub act_rules-forget : (h : Header) (me : Host) (moment : ℕ) (b : HostTcp) (act : Act) → act_rules h me moment (forget_body b) act ≡ act_rules h me moment b act
 act_rules-forget h me moment b (Calls call answer) = rw (call_allows-forget b call answer) refl
-act_rules-forget h me moment b (Makes m) = rules_at-forget b m.lport m.rport (λ e. making_rules e m) (λ e. making_rules-forget e m)
+act_rules-forget h me moment b (Makes m) = rules_at-forget b m.lport m.rport (λ e. making_rules h.version e m) (λ e. making_rules-forget h.version e m)
 act_rules-forget h me moment b (Takes how m) = rw (taker-forget b m) (taker_rules-forget h me b how m moment (taker b m))
 act_rules-forget h me moment b (Resets m) = rw (taker-forget b m, nothing-forget m (taker b m)) refl
 act_rules-forget h me moment b (Expires x) =
@@ -134,21 +135,21 @@ act-forgets h me moment b (Recovers x) =
     ports-forgets b x.lport x.rport (λ e. after_recovery e x.cwnd x.ssthresh moment) (recovery-forgets x.cwnd x.ssthresh moment)
 
 -- a permitted segment below the oldest position that is not acknowledged is empty
-empty_below : (e : Endpoint) (m : SegmentPlan) → is_bad_payload e m ≡ false → is_bad_place e m ≡ false → m.pos < e.stream.snd_una → m.len ≡ 0
-empty_below e m payload place low = grind (arith, nat_tests, payload, place, low)
+empty_below : (v : Version) (e : Endpoint) (m : SegmentPlan) → is_bad_payload e m ≡ false → is_bad_place v e m ≡ false → m.pos < e.stream.snd_una → m.len ≡ 0
+empty_below v e m payload place low = grind (arith, nat_tests, payload, place, low)
 
-piece_same : (e : Endpoint) (m : SegmentPlan) → first_broken (making_rules e m) ≡ None
+piece_same : (v : Version) (e : Endpoint) (m : SegmentPlan) → first_broken (making_rules v e m) ≡ None
     → piece (forget_endpoint e).stream.accepted m.pos m.len ≡ piece e.stream.accepted m.pos m.len
-piece_same e m permitted =
-    let all = none_all (making_rules e m) permitted in
+piece_same v e m permitted =
+    let all = none_all (making_rules v e m) permitted in
     elim (cases_lt m.pos e.stream.snd_una) [
-      | inl low ↦ (let empty : m.len ≡ 0 = empty_below e m all.1.1.1.0 all.1.1.1.1.1.0 low in rw empty refl)
+      | inl low ↦ (let empty : m.len ≡ 0 = empty_below v e m all.1.1.1.0 all.1.1.1.1.1.0 low in rw empty refl)
       | inr high ↦ piece-forget e m.pos m.len high
     ]
 
-emission_same : (me : EndpointId) (e : Endpoint) (m : SegmentPlan) → first_broken (making_rules e m) ≡ None
+emission_same : (v : Version) (me : EndpointId) (e : Endpoint) (m : SegmentPlan) → first_broken (making_rules v e m) ≡ None
     → emission_of me (forget_endpoint e) m ≡ emission_of me e m
-emission_same me e m permitted = rw (rcv_nxt-forget e, piece_same e m permitted) refl
+emission_same v me e m permitted = rw (rcv_nxt-forget e, piece_same v e m permitted) refl
 
 -- the segment that is made is the same where it is permitted
 pub makes-forget : (h : Header) (me : Host) (moment : ℕ) (b : HostTcp) (m : SegmentPlan)
@@ -156,13 +157,13 @@ pub makes-forget : (h : Header) (me : Host) (moment : ℕ) (b : HostTcp) (m : Se
     → act_makes me (forget_body b) (Makes m) ≡ act_makes me b (Makes m)
 makes-forget h me moment b m permitted = rw (place-forget b m.lport m.rport) (by (place_of b m.lport m.rport) permitted)
   where
-    at : (i : ℕ) (o : Option Endpoint) → first_broken (option_map_or (λ e. making_rules e m) o ((rules.NoEndpoint, true) ∷ [])) ≡ None
+    at : (i : ℕ) (o : Option Endpoint) → first_broken (option_map_or (λ e. making_rules h.version e m) o ((rules.NoEndpoint, true) ∷ [])) ≡ None
         → option_map (λ e. emission_of (record { host = me; number = i }) e m) (option_map forget_endpoint o)
         ≡ option_map (λ e. emission_of (record { host = me; number = i }) e m) o
     at i None p = refl
-    at i (Some e) p = rw (emission_same (record { host = me; number = i }) e m p) refl
+    at i (Some e) p = rw (emission_same h.version (record { host = me; number = i }) e m p) refl
 
-    by : (o : Option ℕ) → first_broken (option_map_or (λ e. making_rules e m) (endpoint_at b o) ((rules.NoEndpoint, true) ∷ [])) ≡ None
+    by : (o : Option ℕ) → first_broken (option_map_or (λ e. making_rules h.version e m) (endpoint_at b o) ((rules.NoEndpoint, true) ∷ [])) ≡ None
         → option_map_or (made_at me (forget_body b) m) o None ≡ option_map_or (made_at me b m) o None
     by None p = refl
     by (Some i) p = rw (slice_get-map forget_endpoint b.endpoints i) (at i (slice_get b.endpoints i) p)

@@ -29,8 +29,8 @@ use Rattle.spec_tcp.specs.Recovery.{recovery_rules}
 use Rattle.spec_tcp.specs.Forgetting.{forget_endpoint}
 use Rattle.spec_tcp_laws.proofs.ForgetReads.{rcv_nxt-forget, snd_max-forget, end_of-forget, ended-forget, waiting-forget, again-forget}
 
-pub making_rules-forget : (e : Endpoint) (m : SegmentPlan) → making_rules (forget_endpoint e) m ≡ making_rules e m
-making_rules-forget e m = rw (rcv_nxt-forget e, snd_max-forget e, end_of-forget e) refl
+pub making_rules-forget : (v : Version) (e : Endpoint) (m : SegmentPlan) → making_rules v (forget_endpoint e) m ≡ making_rules v e m
+making_rules-forget v e m = rw (rcv_nxt-forget e, snd_max-forget e, end_of-forget e) refl
 
 pub await-forget : (e : Endpoint) (answer : Answer) → await_allows (forget_endpoint e) answer ≡ await_allows e answer
 await-forget e answers.Done = rw (rcv_nxt-forget e) refl

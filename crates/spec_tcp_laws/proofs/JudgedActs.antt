@@ -115,7 +115,8 @@ pub act_passes : (p : Profile) (j : Judged) (h : Header) (me : Host) (moment : �
     → first_broken (act_rules (header_by j h) me moment (body_by p b) act) ≡ None
 act_passes p j h me moment b (Calls call answer) may passed = rw (call_allows_by p b call answer) passed
 act_passes p j h me moment b (Makes m) may passed =
-    rules_pass p b m.lport m.rport (λ e. making_rules e m) (λ e. making_rules e m) may (λ e. making_passes p e m) passed
+    rules_pass p b m.lport m.rport (λ e. making_rules h.version e m) (λ e. making_rules h.version e m) may
+    (λ e. making_passes h.version p e m) passed
 act_passes p j h me moment b (Takes how m) may passed =
     rw (taker_is p b m) (taker_passes p j h me b how m moment (taker b m) (λ i e is. may i e (taker_there b m i e is)) passed)
 act_passes p j h me moment b (Resets m) may passed = rw (taker_is p b m, nothing_same p m (taker b m)) passed

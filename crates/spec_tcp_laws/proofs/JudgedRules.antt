@@ -84,13 +84,13 @@ both_false : (b c : Bool) → b ≡ false → c ≡ false → (b || c) ≡ false
 both_false true c x y = absurd cc
 both_false false c x y = y
 
-pub making_passes : (p : Profile) (e : Endpoint) (m : SegmentPlan) → MayJudge p e → first_broken (making_rules e m) ≡ None
-    → first_broken (making_rules (endpoint_by p e) m) ≡ None
-making_passes p e m may passed =
-    let t = none_all (making_rules e m) passed in
+pub making_passes : (v : Version) (p : Profile) (e : Endpoint) (m : SegmentPlan) → MayJudge p e → first_broken (making_rules v e m) ≡ None
+    → first_broken (making_rules v (endpoint_by p e) m) ≡ None
+making_passes v p e m may passed =
+    let t = none_all (making_rules v e m) passed in
     let edge = further (has_new_bytes e m) (control_edge e.stream.snd_una e.control) (control_edge e.stream.snd_una (with_profile p e.control)) (m.pos + m.len)
     ((more p e may).edge e.stream.snd_una) t.1.1.1.1.1.1.1.0 in
-    all_none (making_rules (endpoint_by p e) m)
+    all_none (making_rules v (endpoint_by p e) m)
     (t.0, (t.1.0, (t.1.1.0, (t.1.1.1.0, (t.1.1.1.1.0, (t.1.1.1.1.1.0, (t.1.1.1.1.1.1.0, (edge, t.1.1.1.1.1.1.1.1))))))))
 
 pub syn_sent_passes : (p : Profile) (e : Endpoint) (how : TakeChoice) (m : Emission) (moment : ℕ) → MayJudge p e

@@ -16,6 +16,7 @@ use Rattle.case_forms.specs.declared.taken_line.Expired.TheVariants.{Giveup, Msl
 use Rattle.case_forms.specs.declared.trace.Header.{Header}
 use Rattle.case_forms.specs.declared.version.Judged.{Judged}
 use Rattle.case_forms.specs.declared.timer.RecoveryChange.{RecoveryChange}
+use Rattle.case_forms.specs.declared.version.Version.{Version}
 use Rattle.verdict.specs.Rules.{first_broken}
 use Rattle.verdict.specs.declared.rule.Rule.{Rule}
 use Rattle.verdict.specs.declared.rule.Rule.TheVariants as rules
@@ -57,8 +58,8 @@ Alike xs ys = other_rules xs ≡ other_rules ys
 
 -- ---- the rules of each kind of step
 
-making_alike : (p : Profile) (e : Endpoint) (m : SegmentPlan) → Alike (making_rules (endpoint_by p e) m) (making_rules e m)
-making_alike p e m = refl
+making_alike : (v : Version) (p : Profile) (e : Endpoint) (m : SegmentPlan) → Alike (making_rules v (endpoint_by p e) m) (making_rules v e m)
+making_alike v p e m = refl
 
 expiry_alike : (p : Profile) (j : Judged) (h : Header) (moment : ℕ) (e : Endpoint) (x : Expired)
     → Alike (expiry_rules (header_by j h) moment (endpoint_by p e) x) (expiry_rules h moment e x)
@@ -101,7 +102,8 @@ rules_alike p b lport rport f g same = rw (endpoint_of_by p b lport rport) (by (
 act_alike : (p : Profile) (j : Judged) (h : Header) (me : Host) (moment : ℕ) (b : HostTcp) (act : Act)
     → Alike (act_rules (header_by j h) me moment (body_by p b) act) (act_rules h me moment b act)
 act_alike p j h me moment b (acts.Calls call answer) = rw (call_allows_by p b call answer) refl
-act_alike p j h me moment b (acts.Makes m) = rules_alike p b m.lport m.rport (λ e. making_rules e m) (λ e. making_rules e m) (λ e. making_alike p e m)
+act_alike p j h me moment b (acts.Makes m) = rules_alike p b m.lport m.rport (λ e. making_rules h.version e m) (λ e. making_rules h.version e m)
+    (λ e. making_alike h.version p e m)
 act_alike p j h me moment b (acts.Takes how m) = rw (taker_is p b m) (taker_alike p j h me b how m moment (taker b m))
 act_alike p j h me moment b (acts.Resets m) = rw (taker_is p b m, nothing_same p m (taker b m)) refl
 act_alike p j h me moment b (acts.Expires x) =

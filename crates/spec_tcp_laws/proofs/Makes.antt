@@ -26,6 +26,7 @@ use Rattle.spec_tcp.specs.Makes.Edges.{is_bad_ack, is_beyond_offer, is_congestin
 use Rattle.spec_tcp.specs.Makes.{making_rules, emission_of, after_making, endpoint_made}
 use Rattle.case_forms.specs.declared.taken_line.Expired.{Expired}
 use Rattle.case_forms.specs.declared.taken_line.Expired.TheVariants.{Giveup, Msl2, Persist, Pto, Rto}
+use Rattle.case_forms.specs.declared.version.Version.{Version}
 use Rattle.spec_tcp.specs.Timeouts.{after_expiry}
 use Rattle.spec_tcp.specs.Recovery.{after_recovery}
 use Rattle.spec_tcp.specs.Machine.{made_at, rules_at}
@@ -107,8 +108,8 @@ pub record MayMake (e : Endpoint) (m : SegmentPlan) : Type 0 where
   pub offered : is_beyond_offer e m ≡ false
   pub congestion : is_congesting e m ≡ false
 
-pub making_facts : (e : Endpoint) (m : SegmentPlan) → first_broken (making_rules e m) ≡ None → MayMake e m
-making_facts e m may = let t = none_all (making_rules e m) may in
+pub making_facts : (v : Version) (e : Endpoint) (m : SegmentPlan) → first_broken (making_rules v e m) ≡ None → MayMake e m
+making_facts v e m may = let t = none_all (making_rules v e m) may in
     record { state = not_false _ t.1.0; payload = t.1.1.1.0; ack = t.1.1.1.1.0; offered = t.1.1.1.1.1.1.0; congestion = t.1.1.1.1.1.1.1.0 }
 
 pub made_good : (a : Hosts) (host : Host) (i : ℕ) (e : Endpoint) (m : SegmentPlan) → Good a
@@ -138,19 +139,19 @@ made_good a host i e m g at t =
     acks false k bad = absurd cc
 
 -- the segment that a making makes
-pub makes_good : (a : Hosts) (host : Host) (m : SegmentPlan) (x : Emission) → Good a
-    → first_broken (rules_at (pick a host).body m.lport m.rport (λ e. making_rules e m)) ≡ None
+pub makes_good : (v : Version) (a : Hosts) (host : Host) (m : SegmentPlan) (x : Emission) → Good a
+    → first_broken (rules_at (pick a host).body m.lport m.rport (λ e. making_rules v e m)) ≡ None
     → option_map_or (made_at host (pick a host).body m) (place_of (pick a host).body m.lport m.rport) None ≡ Some x → GoodEmission a x
-makes_good a host m x g may made = go (place_of (pick a host).body m.lport m.rport) may made
+makes_good v a host m x g may made = go (place_of (pick a host).body m.lport m.rport) may made
   where
     by : (i : ℕ) (o : Option Endpoint) → slice_get (pick a host).body.endpoints i ≡ o
-        → first_broken (option_map_or (λ e. making_rules e m) o ((rules.NoEndpoint, true) ∷ [])) ≡ None
+        → first_broken (option_map_or (λ e. making_rules v e m) o ((rules.NoEndpoint, true) ∷ [])) ≡ None
         → option_map (λ e. emission_of (name host i) e m) o ≡ Some x → GoodEmission a x
     by i None at may made = absurd (none-some x made)
-    by i (Some e) at may made = subst (λ y. GoodEmission a y) (same_Some _ x made) (made_good a host i e m g at (making_facts e m may))
+    by i (Some e) at may made = subst (λ y. GoodEmission a y) (same_Some _ x made) (made_good a host i e m g at (making_facts v e m may))
 
     go : (o : Option ℕ)
-        → first_broken (option_map_or (λ e. making_rules e m)
+        → first_broken (option_map_or (λ e. making_rules v e m)
         (option_map_or (λ i. slice_get (pick a host).body.endpoints i) o None) ((rules.NoEndpoint, true) ∷ []))
         ≡ None
         → option_map_or (made_at host (pick a host).body m) o None ≡ Some x → GoodEmission a x

@@ -188,7 +188,7 @@ kept_makes h s w host m g may up = let a = w.hosts in let k = pick a host in
     (moves_at_ports a host k.body m.lport m.rport (λ e. after_making e m s) (ends a host g) (plain_making m s))
     (λ c later t. record {
       made = made_after c k.made (suc w.count) ((tcp h).act_makes host s k.body ((tcp h).making m))
-          (λ x e. emission_later a c later x (makes_good a host m x g may e)) t.made;
+          (λ x e. emission_later a c later x (makes_good h.version a host m x g may e)) t.made;
       wire = t.wire;
       inbox = t.inbox;
     })

@@ -29,7 +29,7 @@ use Rattle.spec_tcp.specs.Endpoints.{snd_max, rcv_nxt, flag_count}
 use Rattle.spec_tcp.specs.HostTcp.{last_from, has_ports, place_of, endpoint_of}
 use Rattle.case_forms.specs.States.{is_closed, is_syn_sent, is_syn_received}
 use Rattle.spec_tcp.specs.Makes.{making_rules}
-use Rattle.spec_tcp.specs.Makes.Payload.{making_length, is_bad_empty_place, old_end}
+use Rattle.spec_tcp.specs.Makes.Payload.{making_length, is_bad_empty_place, may_repeat_fin, old_end}
 use Rattle.spec_tcp.specs.Makes.Kind.{may_not_send, may_carry, may_finish}
 use Rattle.stack_core.specs.declared.plans.SynOptions.{SynOptions}
 use Rattle.stack_core.specs.Makings.{syn_of, bytes_of, fin_of, IsMakeable, IsTried, NothingToMake, Refuses}
@@ -137,13 +137,13 @@ not_zero a p = grind (arith, nat_tests)
 is_zero : (a : ℕ) → 0 < a → (a == 0) ≡ false
 is_zero a p = grind (arith, nat_tests)
 
-module _ (e : Endpoint) (pos len : ℕ) (ack fin : Bool) (window : ℕ) (iss : Option Word) (shift : Option ℕ) where
+module _ (v : Version) (e : Endpoint) (pos len : ℕ) (ack fin : Bool) (window : ℕ) (iss : Option Word) (shift : Option ℕ) where
   abbrev m : SegmentPlan
   m = plain e pos len ack fin window iss shift
 
-  room : first_broken (making_rules e m) ≡ None → 0 < making_length m → Room e pos len fin
+  room : first_broken (making_rules v e m) ≡ None → 0 < making_length m → Room e pos len fin
   room h some =
-      let t = none_all (making_rules e m) h in
+      let t = none_all (making_rules v e m) h in
       let state = both_true (not (may_not_send e.state) && (len == 0 || may_carry e.state)) (not fin || may_finish e.state) t.1.0 in
       let more = both_hold (not (may_not_send e.state)) (len == 0 || may_carry e.state) state.0 in
       let payload =
@@ -154,12 +154,13 @@ module _ (e : Endpoint) (pos len : ℕ) (ack fin : Bool) (window : ℕ) (iss : O
       let finish : fin ≡ true → (e.stream.ended ≡ true) × ((pos + len == end_of e.stream.accepted) ≡ true) =
       λ p. both_true e.stream.ended _ (then_false fin _ payload.1 p) in
       let place : ((nat_lt pos e.stream.snd_una || nat_lt (snd_max e) pos)
-      || (nat_lt pos (snd_max e) && nat_lt e.recover (old_end e m))) ≡ false =
+      || (nat_lt pos (snd_max e) && not (may_repeat_fin v (snd_max e) m) && nat_lt e.recover (old_end e m))) ≡ false =
       subst (λ (b : Bool). (if b then is_bad_empty_place e m
       else ((nat_lt pos e.stream.snd_una || nat_lt (snd_max e) pos)
-      || (nat_lt pos (snd_max e) && nat_lt e.recover (old_end e m)))) ≡ false)
+      || (nat_lt pos (snd_max e) && not (may_repeat_fin v (snd_max e) m) && nat_lt e.recover (old_end e m)))) ≡ false)
       (is_zero (making_length m) some) t.1.1.1.1.1.0 in
-      let both = neither (nat_lt pos e.stream.snd_una || nat_lt (snd_max e) pos) (nat_lt pos (snd_max e) && nat_lt e.recover (old_end e m)) place in
+      let both = neither (nat_lt pos e.stream.snd_una || nat_lt (snd_max e) pos)
+      (nat_lt pos (snd_max e) && not (may_repeat_fin v (snd_max e) m) && nat_lt e.recover (old_end e m)) place in
       let low = neither (nat_lt pos e.stream.snd_una) (nat_lt (snd_max e) pos) both.0 in
       let fresh : 0 < len → snd_max e < pos + len → (nat_lt 0 len && nat_lt (snd_max e) (pos + len)) ≡ true =
       λ p q. rw (is_less 0 len p, is_less (snd_max e) (pos + len) q) refl in
@@ -197,9 +198,9 @@ no_test : (b : Bool) → (b && false) ≡ false
 no_test true = refl
 no_test false = refl
 
-pub byte_may : (e : Endpoint) (pos len window : ℕ) (fin : Bool) → Room e pos len fin → 0 < len → snd_max e < pos + len
-    → first_broken (making_rules e (bytes_of e 1 window)) ≡ None
-byte_may e pos len window fin r some new =
+pub byte_may : (v : Version) (e : Endpoint) (pos len window : ℕ) (fin : Bool) → Room e pos len fin → 0 < len → snd_max e < pos + len
+    → first_broken (making_rules v e (bytes_of e 1 window)) ≡ None
+byte_may v e pos len window fin r some new =
     let r_max = r.max in
     let r_una = r.snd_una in
     let r_size = r.size in
@@ -207,7 +208,7 @@ byte_may e pos len window fin r some new =
     let accepted : pos + len ≤ end_of e.stream.accepted = r.accepted some in
     let offered : pos + len ≤ offered_edge e.stream.snd_una e.window.snd_wnd e.probe_due = r.offered some new in
     let congested : pos + len ≤ control_edge e.stream.snd_una e.control = r.congested some new in
-    all_none (making_rules e (bytes_of e 1 window)) ((
+    all_none (making_rules v e (bytes_of e 1 window)) ((
       rw r.opened refl,
       (
         rw (r.quiet, r.carry some) refl,
@@ -236,12 +237,13 @@ byte_may e pos len window fin r some new =
       ),
     ))
 
-pub fin_may : (e : Endpoint) (pos len window : ℕ) → Room e pos len true → pos + len ≡ snd_max e → first_broken (making_rules e (fin_of e window)) ≡ None
-fin_may e pos len window r new =
+pub fin_may : (v : Version) (e : Endpoint) (pos len window : ℕ) → Room e pos len true → pos + len ≡ snd_max e
+    → first_broken (making_rules v e (fin_of e window)) ≡ None
+fin_may v e pos len window r new =
     let r_max = r.max in
     let r_una = r.snd_una in
     let behind : pos + len ≡ end_of e.stream.accepted = r.behind refl in
-    all_none (making_rules e (fin_of e window)) ((
+    all_none (making_rules v e (fin_of e window)) ((
       rw r.opened refl,
       (
         rw (r.quiet, r.ends refl) refl,
@@ -292,16 +294,18 @@ iss_good : (b : Bool) (iss : Word) → (if b then is_some (if b then None else S
 iss_good true iss = refl
 iss_good false iss = refl
 
-pub syn_place : (e : Endpoint) (ack : Bool) → e.stream.snd_una ≡ 0 → snd_max e ≤ 0
-    → (if ack then false else ((nat_lt 0 e.stream.snd_una || nat_lt (snd_max e) 0) || (nat_lt 0 (snd_max e) && nat_lt e.recover (min 1 (snd_max e))))) ≡ false
-syn_place e true snd_una max = refl
-syn_place e false snd_una max = rw (snd_una, not_above 0 (snd_max e) (omega arith), not_above (snd_max e) 0 max) refl
+pub syn_place : (e : Endpoint) (ack free : Bool) → e.stream.snd_una ≡ 0 → snd_max e ≤ 0
+    → (if ack then false
+    else ((nat_lt 0 e.stream.snd_una || nat_lt (snd_max e) 0) || (nat_lt 0 (snd_max e) && free && nat_lt e.recover (min 1 (snd_max e)))))
+    ≡ false
+syn_place e true free snd_una max = refl
+syn_place e false free snd_una max = rw (snd_una, not_above 0 (snd_max e) (omega arith), not_above (snd_max e) 0 max) refl
 
-pub syn_may : (e : Endpoint) (pos len window w : ℕ) (ack fin : Bool) (iss : Option Word) (shift : Option ℕ)
-    (new : SynOptions) → first_broken (making_rules e (synned e pos len ack fin window iss shift)) ≡ None
-    → snd_max e < pos + making_length (synned e pos len ack fin window iss shift) → (snd_max e ≤ 0) × (first_broken (making_rules e (syn_of e new w)) ≡ None)
-syn_may e pos len window w ack fin iss shift new h past =
-    let t = none_all (making_rules e (synned e pos len ack fin window iss shift)) h in
+pub syn_may : (p q : Version) (e : Endpoint) (pos len window w : ℕ) (ack fin : Bool) (iss : Option Word) (shift : Option ℕ)
+    (new : SynOptions) → first_broken (making_rules p e (synned e pos len ack fin window iss shift)) ≡ None
+    → snd_max e < pos + making_length (synned e pos len ack fin window iss shift) → (snd_max e ≤ 0) × (first_broken (making_rules q e (syn_of e new w)) ≡ None)
+syn_may p q e pos len window w ack fin iss shift new h past =
+    let t = none_all (making_rules p e (synned e pos len ack fin window iss shift)) h in
     let acks : nat_le 1 (rcv_nxt e) ≡ ack = ack_is (rcv_nxt e) ack t.1.1.1.1.0 in
     let state = both_hold (((if ack then is_syn_received e.state else is_syn_sent e.state) && e.stream.snd_una == 0) && not fin) true (not_false _ t.1.0) in
     let fins = both_hold ((if ack then is_syn_received e.state else is_syn_sent e.state) && e.stream.snd_una == 0) (not fin) state.0 in
@@ -313,7 +317,7 @@ syn_may e pos len window w ack fin iss shift new h past =
     let past2 : snd_max e < pos + (len + 1 + 0) = subst (λ (b : Bool). snd_max e < pos + (len + 1 + flag_count b)) (not_true fin fins.1) past in
     let max : snd_max e ≤ 0 = omega arith in (
       max,
-      all_none (making_rules e (syn_of e new w)) (
+      all_none (making_rules q e (syn_of e new w)) (
         rw (left_false (is_closed e.state) t.0) refl,
         (
           rw (acks, at_zero.0, at_zero.1) refl,
@@ -324,7 +328,7 @@ syn_may e pos len window w ack fin iss shift new h past =
               (
                 ack_good (rcv_nxt e),
                 (
-                  syn_place e (nat_le 1 (rcv_nxt e)) snd_una max,
+                  syn_place e (nat_le 1 (rcv_nxt e)) (not (may_repeat_fin q (snd_max e) (syn_of e new w))) snd_una max,
                   (
                     refl,
                     (
@@ -343,16 +347,16 @@ syn_may e pos len window w ack fin iss shift new h past =
       ),
     )
 
--- 2. one of the three may be made, where any may
+-- 2. one of the three may be made, where any may, in whichever version
 
 by_test : {P : Type 0} (b : Bool) → (b ≡ true → P) → (b ≡ false → P) → P
 by_test true yes_ no_ = yes_ refl
 by_test false yes_ no_ = no_ refl
 
-abbrev pub OneMay : Endpoint → SynOptions → (at_syn window : ℕ) → Type 0
-OneMay e new v w =
-    ((snd_max e ≤ 0) × (first_broken (making_rules e (syn_of e new v)) ≡ None))
-    ⊎ ((first_broken (making_rules e (bytes_of e 1 w)) ≡ None) ⊎ (first_broken (making_rules e (fin_of e w)) ≡ None))
+abbrev pub OneMay : Version → Endpoint → SynOptions → (at_syn window : ℕ) → Type 0
+OneMay q e new v w =
+    ((snd_max e ≤ 0) × (first_broken (making_rules q e (syn_of e new v)) ≡ None))
+    ⊎ ((first_broken (making_rules q e (bytes_of e 1 w)) ≡ None) ⊎ (first_broken (making_rules q e (fin_of e w)) ≡ None))
 
 -- so many positions, with the counts of SYN and FIN
 abbrev pub reach : SegmentPlan → Bool → Bool → ℕ
@@ -372,18 +376,19 @@ flagged m rst syn fin =
     }
 
 -- an empty one takes no new positions
-not_empty : (e : Endpoint) (m : SegmentPlan) (fin : Bool)
-    → first_broken (making_rules e (flagged m false false fin)) ≡ None → snd_max e < reach m false fin
+not_empty : (v : Version) (e : Endpoint) (m : SegmentPlan) (fin : Bool)
+    → first_broken (making_rules v e (flagged m false false fin)) ≡ None → snd_max e < reach m false fin
     → 0 < making_length (flagged m false false fin)
-not_empty e m fin h past = by_test (making_length (flagged m false false fin) == 0) empty (not_zero (making_length (flagged m false false fin)))
+not_empty v e m fin h past = by_test (making_length (flagged m false false fin) == 0) empty (not_zero (making_length (flagged m false false fin)))
   where
     empty : (making_length (flagged m false false fin) == 0) ≡ true → 0 < making_length (flagged m false false fin)
     empty is =
-        let t = none_all (making_rules e (flagged m false false fin)) h in
+        let t = none_all (making_rules v e (flagged m false false fin)) h in
         let place : (nat_lt (m.pos + 1) e.stream.snd_una || nat_lt (snd_max e) m.pos) ≡ false =
         subst (λ (b : Bool). (if b then is_bad_empty_place e (flagged m false false fin)
         else ((nat_lt m.pos e.stream.snd_una || nat_lt (snd_max e) m.pos)
-        || (nat_lt m.pos (snd_max e) && nat_lt e.recover (old_end e (flagged m false false fin))))) ≡ false)
+        || (nat_lt m.pos (snd_max e) && not (may_repeat_fin v (snd_max e) (flagged m false false fin))
+        && nat_lt e.recover (old_end e (flagged m false false fin))))) ≡ false)
         is t.1.1.1.1.1.0 in
         let low : m.pos ≤ snd_max e = at_most m.pos (snd_max e) (neither (nat_lt (m.pos + 1) e.stream.snd_una) (nat_lt (snd_max e) m.pos) place).1 in
         let zero_long : making_length (flagged m false false fin) ≡ 0 = is_same (making_length (flagged m false false fin)) 0 is in
@@ -397,24 +402,27 @@ spent : (max pos len : ℕ) (fin : Bool) → max < pos + (len + 0 + flag_count f
 spent max pos len true past is = let top = at_most (pos + len) max is in (refl, omega arith)
 spent max pos len false past is = let top = at_most (pos + len) max is in absurd (omega arith)
 
-plain_may : (e : Endpoint) (new : SynOptions) (v w : ℕ) (m : SegmentPlan) (fin : Bool)
-    → first_broken (making_rules e (flagged m false false fin)) ≡ None → snd_max e < reach m false fin
-    → OneMay e new v w
-plain_may e new v w m fin h past =
-    let r : Room e m.pos m.len fin = room e m.pos m.len m.flags.ack fin m.window m.iss m.shift h (not_empty e m fin h past) in
+plain_may : (p q : Version) (e : Endpoint) (new : SynOptions) (v w : ℕ) (m : SegmentPlan) (fin : Bool)
+    → first_broken (making_rules p e (flagged m false false fin)) ≡ None → snd_max e < reach m false fin
+    → OneMay q e new v w
+plain_may p q e new v w m fin h past =
+    let r : Room e m.pos m.len fin = room p e m.pos m.len m.flags.ack fin m.window m.iss m.shift h (not_empty p e m fin h past) in
     let low = r.max in
     by_test (nat_lt (snd_max e) (m.pos + m.len))
-    (λ is. let new_end : snd_max e < m.pos + m.len = is_more (snd_max e) (m.pos + m.len) is in inr (inl (byte_may e m.pos m.len w fin r (omega arith) new_end)))
+    (λ is. let new_end : snd_max e < m.pos + m.len = is_more (snd_max e) (m.pos + m.len) is in
+    inr (inl (byte_may q e m.pos m.len w fin r (omega arith) new_end)))
     (λ is. let fins = spent (snd_max e) m.pos m.len fin past is in
-    inr (inr (fin_may e m.pos m.len w (subst (λ (b : Bool). Room e m.pos m.len b) fins.0 r) fins.1)))
+    inr (inr (fin_may q e m.pos m.len w (subst (λ (b : Bool). Room e m.pos m.len b) fins.0 r) fins.1)))
 
-pub one_may : (e : Endpoint) (new : SynOptions) (v w : ℕ) (m : SegmentPlan) → m.flags.rst ≡ false
-    → first_broken (making_rules e m) ≡ None → snd_max e < m.pos + making_length m → OneMay e new v w
-one_may e new v w m rst h past = by m.flags.syn (subst (λ (b : Bool). first_broken (making_rules e (flagged m b m.flags.syn m.flags.fin)) ≡ None) rst h) past
+pub one_may : (p q : Version) (e : Endpoint) (new : SynOptions) (v w : ℕ) (m : SegmentPlan) → m.flags.rst ≡ false
+    → first_broken (making_rules p e m) ≡ None → snd_max e < m.pos + making_length m → OneMay q e new v w
+one_may p q e new v w m rst h past =
+    by m.flags.syn (subst (λ (b : Bool). first_broken (making_rules p e (flagged m b m.flags.syn m.flags.fin)) ≡ None) rst h) past
   where
-    by : (syn : Bool) → first_broken (making_rules e (flagged m false syn m.flags.fin)) ≡ None → snd_max e < reach m syn m.flags.fin → OneMay e new v w
-    by true h past = inl (syn_may e m.pos m.len m.window v m.flags.ack m.flags.fin m.iss m.shift new h past)
-    by false h past = plain_may e new v w m m.flags.fin h past
+    by : (syn : Bool) → first_broken (making_rules p e (flagged m false syn m.flags.fin)) ≡ None → snd_max e < reach m syn m.flags.fin
+        → OneMay q e new v w
+    by true h past = inl (syn_may p q e m.pos m.len m.window v m.flags.ack m.flags.fin m.iss m.shift new h past)
+    by false h past = plain_may p q e new v w m m.flags.fin h past
 
 -- 3. at a host
 
@@ -459,7 +467,7 @@ of_ports b l r e found = by (place_of b l r) refl found
 pub nothing : (h : Header) (me : Host) (w : World tcp_shape)
     → ((i : ℕ) (e : Endpoint) → slice_get (pick w.hosts me).body.endpoints i ≡ Some e → IsTried h me w e)
     → NothingToMake h me w
-nothing h me w tried m e rst found past permitted = refute (one_may e t.opening t.at_syn t.window m rst may past)
+nothing h me w tried m e rst found past permitted = refute (one_may h.version h.version e t.opening t.at_syn t.window m rst may past)
   where
     b : HostTcp
     b = (pick w.hosts me).body
@@ -473,17 +481,19 @@ nothing h me w tried m e rst found past permitted = refute (one_may e t.opening 
     found2 : endpoint_of b e.lport e.rport ≡ Some e
     found2 = subst (λ (l : ℕ). endpoint_of b l e.rport ≡ Some e) (sym at.2) (subst (λ (r : ℕ). endpoint_of b m.lport r ≡ Some e) (sym at.3) found)
 
-    may : first_broken (making_rules e m) ≡ None
-    may = subst (λ (o : Option Endpoint). first_broken (option_map_or (λ x. making_rules x m) o ((rules.NoEndpoint, true) ∷ [])) ≡ None) found permitted
+    may : first_broken (making_rules h.version e m) ≡ None
+    may = subst (λ (o : Option Endpoint).
+    first_broken (option_map_or (λ x. making_rules h.version x m) o ((rules.NoEndpoint, true) ∷ [])) ≡ None) found permitted
 
-    back : (c : SegmentPlan) → c.lport ≡ e.lport → c.rport ≡ e.rport → first_broken (making_rules e c) ≡ None → Permitted (tcp h) 0 w (At me (Makes c))
+    back : (c : SegmentPlan) → c.lport ≡ e.lport → c.rport ≡ e.rport → first_broken (making_rules h.version e c) ≡ None
+        → Permitted (tcp h) 0 w (At me (Makes c))
     back c l r is =
         subst (λ (o : Option Endpoint).
-        first_broken (option_map_or (λ x. making_rules x c) o ((rules.NoEndpoint, true) ∷ [])) ≡ None)
+        first_broken (option_map_or (λ x. making_rules h.version x c) o ((rules.NoEndpoint, true) ∷ [])) ≡ None)
         (sym (subst (λ (p : ℕ). endpoint_of b p c.rport ≡ Some e) (sym l)
         (subst (λ (q : ℕ). endpoint_of b e.lport q ≡ Some e) (sym r) found2))) is
 
-    refute : OneMay e t.opening t.at_syn t.window → ⊥
+    refute : OneMay h.version e t.opening t.at_syn t.window → ⊥
     refute (inl (low, is)) = t.syn low (back (syn_of e t.opening t.at_syn) refl refl is)
     refute (inr (inl is)) = t.byte (back (bytes_of e 1 t.window) refl refl is)
     refute (inr (inr is)) = t.fin (back (fin_of e t.window) refl refl is)
@@ -509,12 +519,13 @@ far h me w m fin all some above ends permitted = by (endpoint_of (pick w.hosts m
         (λ is. let accepted = r.accepted (not_zero m.len is) in absurd (omega arith))
 
     by : (o : Option Endpoint) → endpoint_of (pick w.hosts me).body m.lport m.rport ≡ o
-        → first_broken (option_map_or (λ x. making_rules x (flagged m false false fin)) o
+        → first_broken (option_map_or (λ x. making_rules h.version x (flagged m false false fin)) o
         ((rules.NoEndpoint, true) ∷ [])) ≡ None → ⊥
     by None is may = absurd cc
     by (Some e) is may =
         let place = of_ports (pick w.hosts me).body m.lport m.rport e is in
-        too_far e (short_at IsShort (pick w.hosts me).body.endpoints place.0 e place.1 all) (room e m.pos m.len m.flags.ack fin m.window m.iss m.shift may some)
+        too_far e (short_at IsShort (pick w.hosts me).body.endpoints place.0 e place.1 all)
+        (room h.version e m.pos m.len m.flags.ack fin m.window m.iss m.shift may some)
 
 -- an endpoint with more than that was tried where its SYN was
 pub tried_far : (h : Header) (me : Host) (w : World tcp_shape) (opening : SynOptions) (window : ℕ) (e : Endpoint)

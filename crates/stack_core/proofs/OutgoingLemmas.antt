@@ -48,13 +48,13 @@ makes_one : (me : Host) (b : HostTcp) (m : SegmentPlan) (h : Header) (moment : �
     → (e : Emission) × (act_makes me b (acts.Makes m) ≡ Some e) × (length e.payload ≤ m.len)
 makes_one me b m h moment may = by (place_of b m.lport m.rport) may
   where
-    at : (i : ℕ) (o : Option Endpoint) → first_broken (option_map_or (λ e. making_rules e m) o ((rules.NoEndpoint, true) ∷ [])) ≡ None
+    at : (i : ℕ) (o : Option Endpoint) → first_broken (option_map_or (λ e. making_rules h.version e m) o ((rules.NoEndpoint, true) ∷ [])) ≡ None
         → (e : Emission) × (option_map (λ e. emission_of (record { host = me; number = i }) e m) o ≡ Some e) × (length e.payload ≤ m.len)
     at i None may = absurd cc
     at i (Some e) may = (emission_of (record { host = me; number = i }) e m, refl, few_taken m.len (drop (m.pos - 1) e.stream.accepted))
 
     by : (o : Option ℕ)
-        → first_broken (option_map_or (λ e. making_rules e m) (option_map_or (λ i. slice_get b.endpoints i) o None)
+        → first_broken (option_map_or (λ e. making_rules h.version e m) (option_map_or (λ i. slice_get b.endpoints i) o None)
         ((rules.NoEndpoint, true) ∷ [])) ≡ None
         → (e : Emission) × (option_map_or (made_at me b m) o None ≡ Some e) × (length e.payload ≤ m.len)
     by None may = absurd cc

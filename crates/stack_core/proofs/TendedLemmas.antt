@@ -16,6 +16,7 @@ use Rattle.case_forms.specs.declared.taken_line.Expired.TheVariants as expireds
 use Rattle.case_forms.specs.declared.timer.Timer.{Timer}
 use Rattle.case_forms.specs.declared.timer.Timer.TheVariants.{Giveup, Msl2, Persist, Pto, Rto}
 use Rattle.case_forms.specs.declared.trace.Header.{Header}
+use Rattle.case_forms.specs.declared.version.Version.{Version}
 use Rattle.verdict.specs.Rules.{first_broken}
 use Rattle.verdict.specs.declared.rule.Rule.TheVariants as rules
 use Rattle.verdict.proofs.RuleLemmas.{none_all}
@@ -57,13 +58,13 @@ use Rattle.stack_core.proofs.AffectedLemmas.{bring_leaves, ends, leaves_same, st
 
 -- 1. an endpoint makes nothing
 
-pub quiet : (e : Endpoint) (new : SynOptions)
-    → (snd_max e ≤ 0 → first_broken (making_rules e (syn_of e new 0)) ≡ None → ⊥)
-    → (first_broken (making_rules e (bytes_of e 1 0)) ≡ None → ⊥)
-    → (first_broken (making_rules e (fin_of e 0)) ≡ None → ⊥) → IsQuiet e
-quiet e new no_syn no_byte no_fin m rst past may = refute (one_may e new 0 0 m rst may past)
+pub quiet : (tried : Version) (e : Endpoint) (new : SynOptions)
+    → (snd_max e ≤ 0 → first_broken (making_rules tried e (syn_of e new 0)) ≡ None → ⊥)
+    → (first_broken (making_rules tried e (bytes_of e 1 0)) ≡ None → ⊥)
+    → (first_broken (making_rules tried e (fin_of e 0)) ≡ None → ⊥) → IsQuiet e
+quiet tried e new no_syn no_byte no_fin v m rst past may = refute (one_may v tried e new 0 0 m rst may past)
   where
-    refute : OneMay e new 0 0 → ⊥
+    refute : OneMay tried e new 0 0 → ⊥
     refute (inl (low, is)) = no_syn low is
     refute (inr (inl is)) = no_byte is
     refute (inr (inr is)) = no_fin is
@@ -88,12 +89,13 @@ nothing_ready h me w looked [] all none are m e rst found past permitted =
     let low : at.0 < looked = omega arith in
     by at.0 (are.each at.0 e low at.1)
   where
-    may : first_broken (making_rules e m) ≡ None
-    may = subst (λ (o : Option Endpoint). first_broken (option_map_or (λ x. making_rules x m) o ((rules.NoEndpoint, true) ∷ [])) ≡ None) found permitted
+    may : first_broken (making_rules h.version e m) ≡ None
+    may = subst (λ (o : Option Endpoint).
+    first_broken (option_map_or (λ x. making_rules h.version x m) o ((rules.NoEndpoint, true) ∷ [])) ≡ None) found permitted
 
     by : (i : ℕ) → ((n : ℕ) × IsListed (from n i) [] × (Unit {0})) ⊎ IsQuiet e → ⊥
     by i (inl (n, absent, x)) = absent
-    by i (inr well) = well m rst past may
+    by i (inr well) = well h.version m rst past may
 
 -- 2. numbers can be read near the positions of all
 

@@ -6,6 +6,7 @@ use Rattle.case_forms.specs.declared.taken_line.Expired.TheVariants as expireds
 use Rattle.case_forms.specs.declared.timer.Timer.{Timer}
 use Rattle.case_forms.specs.TakenLines.{timer_of}
 use Rattle.case_forms.specs.declared.trace.Header.{Header}
+use Rattle.case_forms.specs.declared.version.Version.{Version}
 use Rattle.verdict.specs.Rules.{first_broken}
 use Rattle.spec_network.specs.Tables.{pick}
 use Rattle.timer_rules.specs.Timers.{earliest}
@@ -20,11 +21,11 @@ use Rattle.stack_core.specs.declared.deadline_queue.Deadline.{Deadline}
 use Rattle.stack_core.specs.DeadlineQueues.{AreCovered}
 use Rattle.stack_core.specs.Recordings.{Recorded, world_left}
 
--- the endpoint makes nothing without RST that takes new positions
+-- the endpoint makes nothing without RST that takes new positions, in any version
 abbrev pub IsQuiet : Endpoint → Type 0
 IsQuiet e =
-    (m : SegmentPlan) → m.flags.rst ≡ false → snd_max e < m.pos + making_length m
-    → first_broken (making_rules e m) ≡ None → ⊥
+    (v : Version) (m : SegmentPlan) → m.flags.rst ≡ false → snd_max e < m.pos + making_length m
+    → first_broken (making_rules v e m) ≡ None → ⊥
 
 -- none of its timers may expire at this moment, except to give up
 abbrev pub IsStillAt : Header → ℕ → Endpoint → Type 0

@@ -89,9 +89,10 @@ fn find_among(
     ensures quiet { AreQuiet ready.new.looked ready.new.entries.keys (pick world.now.world.hosts me).body.endpoints }
 {
     world.is_kept();
+    let version = world.header().version;
     let body = world.body(me);
     while let Some(wake) = ready.first() {
-        if is_quiet_at(body, wake.place, opening) {
+        if is_quiet_at(version, body, wake.place, opening) {
             ready.leave();
         } else {
             return make_at(world, me, send_states, wake.place, opening, ring);
@@ -135,55 +136,55 @@ fn make_at(
 }
 
 // Whether the endpoint at a place makes nothing without RST that takes new positions.
-fn is_quiet_at(body: &HostTcp, place: u32, opening: SynOptions) -> bool
+fn is_quiet_at(version: Version, body: &HostTcp, place: u32, opening: SynOptions) -> bool
     requires { AreReadable body.now.endpoints }
     ensures { result ≡ true → (e : Endpoint) → slice_get body.now.endpoints place ≡ Some e → IsQuiet e }
 {
     match body.endpoint_at(place) {
-        Some(endpoint) => is_quiet(endpoint, opening),
+        Some(endpoint) => is_quiet(version, endpoint, opening),
         None => true,
     }
 }
 
 // Whether an endpoint makes nothing without RST that takes new positions: neither its SYN, nor a new byte, nor its FIN.
 // Beyond the greatest position it may be false of one that makes nothing.
-fn is_quiet(endpoint: &Endpoint, opening: SynOptions) -> bool
+fn is_quiet(version: Version, endpoint: &Endpoint, opening: SynOptions) -> bool
     requires { endpoint.now.stream.snd_una < 2 ^ 63 }
     ensures { result ≡ true → IsQuiet endpoint.now }
 {
     if GREATEST_POSITION < endpoint.snd_max() {
         return false;
     }
-    if may_begin(endpoint, opening) {
+    if may_begin(version, endpoint, opening) {
         return false;
     }
-    if may_make(endpoint, byte_of(endpoint, 0)) {
+    if may_make(version, endpoint, byte_of(endpoint, 0)) {
         return false;
     }
-    if may_make(endpoint, fin_of(endpoint, 0)) {
+    if may_make(version, endpoint, fin_of(endpoint, 0)) {
         return false;
     }
     true
 }
 
 // Whether it may make its SYN, if nothing was made before.
-fn may_begin(endpoint: &Endpoint, opening: SynOptions) -> bool
+fn may_begin(version: Version, endpoint: &Endpoint, opening: SynOptions) -> bool
     requires { endpoint.now.stream.snd_una < 2 ^ 63 }
     ensures { result ≡ false → snd_max endpoint.now ≤ 0
-        → first_broken (making_rules endpoint.now (syn_of endpoint.now opening 0)) ≡ None → ⊥ }
+        → first_broken (making_rules version endpoint.now (syn_of endpoint.now opening 0)) ≡ None → ⊥ }
 {
     if 0 < endpoint.snd_max() {
         return false;
     }
-    may_make(endpoint, syn_of(endpoint, opening, 0))
+    may_make(version, endpoint, syn_of(endpoint, opening, 0))
 }
 
-fn may_make(endpoint: &Endpoint, plan: SegmentPlan) -> bool
+fn may_make(version: Version, endpoint: &Endpoint, plan: SegmentPlan) -> bool
     requires readable { endpoint.now.stream.snd_una < 2 ^ 63 }
     requires small { plan.pos ≤ greatest_position }
-    ensures { result ≡ false → first_broken (making_rules endpoint.now plan) ≡ None → ⊥ }
+    ensures { result ≡ false → first_broken (making_rules version endpoint.now plan) ≡ None → ⊥ }
 {
-    admits_making(endpoint, &plan).is_ok()
+    admits_making(version, endpoint, &plan).is_ok()
 }
 
 // What a core would make, and may, at an endpoint that is listed. None: nothing at any of these.

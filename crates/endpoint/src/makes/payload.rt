@@ -2,10 +2,10 @@
 
 ghost use Rattle.spec_tcp.specs.Bounds.{greatest_position};
 ghost use Rattle.spec_tcp.specs.Makes.Payload.{making_length, has_new_bytes, is_bad_payload, old_end};
-ghost use Rattle.spec_tcp.specs.Makes.Payload.{is_bad_empty_place, is_bad_place};
+ghost use Rattle.spec_tcp.specs.Makes.Payload.{is_bad_empty_place, is_bad_place, is_fin_alone, may_repeat_fin};
 ghost use Rattle.std.specs.Prelude.{◌≡◌, ◌≤◌};
 
-use case_forms::SegmentPlan;
+use case_forms::{SegmentPlan, Version};
 use spec_tcp::Endpoint;
 
 /// How many positions a segment occupies: its bytes, its SYN and its FIN.
@@ -54,9 +54,26 @@ fn is_bad_empty_place(endpoint: &Endpoint, making: &SegmentPlan) -> bool
     making.pos + 1 < endpoint.stream.snd_una || endpoint.snd_max() < making.pos
 }
 
-pub(crate) fn is_bad_place(endpoint: &Endpoint, making: &SegmentPlan) -> bool
+fn is_fin_alone(snd_max: u64, making: &SegmentPlan) -> bool
+    ensures { result ≡ is_fin_alone snd_max making.now }
+{
+    making.flags.fin
+        && !making.flags.syn
+        && !making.flags.rst
+        && making.len == 0
+        && making.pos < snd_max
+}
+
+// From version 6 on, a FIN alone may be sent again at any time (RFC 9293, 3.10.4).
+fn may_repeat_fin(version: Version, snd_max: u64, making: &SegmentPlan) -> bool
+    ensures { result ≡ may_repeat_fin version snd_max making.now }
+{
+    version.says_sender() && is_fin_alone(snd_max, making)
+}
+
+pub(crate) fn is_bad_place(version: Version, endpoint: &Endpoint, making: &SegmentPlan) -> bool
     requires { making.now.pos ≤ greatest_position }
-    ensures { result ≡ is_bad_place endpoint.now making.now }
+    ensures { result ≡ is_bad_place version endpoint.now making.now }
 {
     let end = endpoint.snd_max();
     let is_outside = making.pos < endpoint.stream.snd_una || end < making.pos;
@@ -69,5 +86,8 @@ pub(crate) fn is_bad_place(endpoint: &Endpoint, making: &SegmentPlan) -> bool
     if making_length(making) == 0 {
         return is_bad_empty_place(endpoint, making);
     }
-    is_outside || making.pos < end && endpoint.recover < old_end(endpoint, making)
+    is_outside
+        || making.pos < end
+            && !may_repeat_fin(version, end, making)
+            && endpoint.recover < old_end(endpoint, making)
 }

@@ -12,7 +12,7 @@ ghost use Rattle.spec_tcp.specs.Machine.{rules_at};
 ghost use Rattle.spec_tcp.specs.Makes.{after_making, emission_of, making_rules};
 
 use crate::host_tcp::HostTcp;
-use case_forms::SegmentPlan;
+use case_forms::{SegmentPlan, Version};
 use endpoint::admits_making;
 use segment::OutOfMemory;
 use spec_tcp::{Emission, EndpointId};
@@ -20,18 +20,18 @@ use std::alloc::Global;
 use verdict::Rule;
 
 impl HostTcp {
-    /// The place of the endpoint that may make this segment (RFC 9293, 3.8 and 3.10). The error is the first broken
-    /// rule.
-    pub(crate) fn admitted_making(&self, plan: &SegmentPlan) -> Result<u32, Rule>
+    /// The place of the endpoint that may make this segment, in a text of this version (RFC 9293, 3.8 and 3.10). The
+    /// error is the first broken rule.
+    pub(crate) fn admitted_making(&self, version: Version, plan: &SegmentPlan) -> Result<u32, Rule>
         requires kept { All HasRoom self.now.endpoints }
         requires small { plan.now.pos ≤ greatest_position }
         ensures rule { result_err result ≡ first_broken
-            (rules_at self.now plan.now.lport plan.now.rport (λ e. making_rules e plan.now)) }
+            (rules_at self.now plan.now.lport plan.now.rport (λ e. making_rules version e plan.now)) }
         ensures place { IfOk result (λ place. place_of self.now plan.now.lport plan.now.rport ≡ Some place) }
         ensures there { IfOk result (λ place. is_some (slice_get self.now.endpoints place) ≡ true) }
     {
         let (place, endpoint) = self.endpoint_on(plan.lport, plan.rport)?;
-        admits_making(endpoint, plan)?;
+        admits_making(version, endpoint, plan)?;
         Ok(place)
     }
 

@@ -1,6 +1,8 @@
--- The bytes of a segment to build, and where they begin (RFC 9293, 3.8.1 and 3.10.2).
+-- The bytes of a segment to build, and where they begin (RFC 9293, 3.8.1, 3.10.2 and 3.10.4).
 use Rattle.std.specs.Prelude.{ℕ, ◌+◌, ◌==◌, nat_lt, min, Bool, false, not, ◌&&◌, ◌||◌, if◌then◌else◌}
+use Rattle.case_forms.specs.Versions.{says_sender}
 use Rattle.case_forms.specs.declared.steps.SegmentPlan.{SegmentPlan}
+use Rattle.case_forms.specs.declared.version.Version.{Version}
 use Rattle.streams.specs.Sent.{end_of}
 use Rattle.spec_tcp.specs.Endpoints.{Endpoint, snd_max, flag_count}
 
@@ -30,12 +32,20 @@ old_end e m = min (m.pos + making_length m) (snd_max e)
 abbrev pub is_bad_empty_place : Endpoint → SegmentPlan → Bool
 is_bad_empty_place e m = nat_lt (m.pos + 1) e.stream.snd_una || nat_lt (snd_max e) m.pos
 
+-- a FIN alone: without bytes, and it was sent before
+abbrev pub is_fin_alone : (snd_max : ℕ) → SegmentPlan → Bool
+is_fin_alone snd_max m = m.flags.fin && not m.flags.syn && not m.flags.rst && m.len == 0 && nat_lt m.pos snd_max
+
+-- from version 6 on, a FIN alone may be sent again at any time (RFC 9293, 3.10.4)
+abbrev pub may_repeat_fin : Version → (snd_max : ℕ) → SegmentPlan → Bool
+may_repeat_fin v snd_max m = says_sender v && is_fin_alone snd_max m
+
 -- any other segment below the oldest unacknowledged position, or with a gap after what was sent, or that retransmits
 -- beyond where recovery began
-abbrev pub is_bad_place : Endpoint → SegmentPlan → Bool
-is_bad_place e m =
+abbrev pub is_bad_place : Version → Endpoint → SegmentPlan → Bool
+is_bad_place v e m =
     if m.flags.rst then nat_lt m.pos e.stream.snd_una || nat_lt (snd_max e) m.pos
     else if m.flags.syn && m.flags.ack then false
     else if making_length m == 0 then is_bad_empty_place e m
-    else nat_lt m.pos e.stream.snd_una || nat_lt (snd_max e) m.pos || nat_lt m.pos (snd_max e) && nat_lt e.recover
-    (old_end e m)
+    else nat_lt m.pos e.stream.snd_una || nat_lt (snd_max e) m.pos
+    || nat_lt m.pos (snd_max e) && not (may_repeat_fin v (snd_max e) m) && nat_lt e.recover (old_end e m)
