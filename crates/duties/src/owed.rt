@@ -182,12 +182,10 @@ pub(crate) fn owed_open(
     after: &View,
     moment: u64,
     listener_closed: Option<u64>,
-    strict: bool,
     counts: bool,
     owed: &Owed,
 ) -> Owed
-    ensures { result
-        ≡ owed_open touched.now.event touched.now.before after.now moment listener_closed strict counts owed.now }
+    ensures { result ≡ owed_open touched.now.event touched.now.before after.now moment listener_closed counts owed.now }
 {
     let (event, before) = (&touched.event, &touched.before);
     Owed {
@@ -204,7 +202,7 @@ pub(crate) fn owed_open(
         probing: probing_after(event, before, after, moment, owed.probing),
         start: start_after(after, moment, owed.start),
         reset: reset_after(event, before, after, moment, listener_closed, owed.reset),
-        again: again_after(strict, event, before, after, owed.again),
+        again: again_after(event, before, after, owed.again),
         answers: answers_after(event, before, counts, owed.answers),
         acknowledged: acknowledged_after(event, moment, owed.acknowledged),
     }
@@ -224,30 +222,21 @@ fn once_closed(owed: Owed) -> Owed
     }
 }
 
-/// What an endpoint owes after a step that touched it, if it is then seen like this. `strict`: in version 6. `counts`:
-/// it sends a mere acknowledgment.
+/// What an endpoint owes after a step that touched it, if it is then seen like this. `counts`: it sends a mere
+/// acknowledgment.
 #[inline(always)]
 pub(crate) fn owed_after(
     touched: &TouchedEndpoint,
     after: &View,
     moment: u64,
     listener_closed: Option<u64>,
-    strict: bool,
     counts: bool,
     owed: &Owed,
 ) -> Owed
     ensures { result
-        ≡ owed_after touched.now.event touched.now.before after.now moment listener_closed strict counts owed.now }
+        ≡ owed_after touched.now.event touched.now.before after.now moment listener_closed counts owed.now }
 {
-    let next = owed_open(
-        touched,
-        after,
-        moment,
-        listener_closed,
-        strict,
-        counts,
-        owed,
-    );
+    let next = owed_open(touched, after, moment, listener_closed, counts, owed);
     if after.state.is_closed() {
         once_closed(next)
     } else {

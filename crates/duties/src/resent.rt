@@ -2,7 +2,7 @@
 //! `lib.rt` says why each function here is inlined.
 
 ghost use Rattle.std.specs.Prelude.{◌≡◌};
-ghost use Rattle.spec_tcp.specs.Makes.Payload.{is_fin_alone, making_length};
+ghost use Rattle.spec_tcp.specs.Makes.Payload.{making_length};
 ghost use Rattle.spec_duties.specs.Resent.{again_after, begins_again, is_repeating, is_resent, is_resent_beyond};
 ghost use Rattle.spec_duties.specs.Resent.{judges_repeats, judges_windows, passed_by, repeated_end};
 
@@ -17,23 +17,14 @@ pub(crate) fn making_length(plan: &SegmentPlan) -> u64
     plan.len as u64 + plan.flags.syn as u64 + plan.flags.fin as u64
 }
 
-/// Whether a segment is a FIN alone: without bytes, and it was sent before.
 #[inline(always)]
-pub(crate) fn is_fin_alone(v: &View, plan: &SegmentPlan) -> bool
-    ensures { result ≡ is_fin_alone v.now.snd_max plan.now }
-{
-    plan.flags.fin && !plan.flags.syn && !plan.flags.rst && plan.len == 0 && plan.pos < v.snd_max
-}
-
-#[inline(always)]
-fn is_repeating(strict: bool, v: &View, plan: &SegmentPlan) -> bool
-    ensures { result ≡ is_repeating strict v.now plan.now }
+fn is_repeating(v: &View, plan: &SegmentPlan) -> bool
+    ensures { result ≡ is_repeating v.now plan.now }
 {
     plan.pos < v.snd_max
         && 0 < making_length(plan)
         && !(plan.flags.syn && plan.flags.ack)
         && !plan.flags.rst
-        && !(strict && is_fin_alone(v, plan))
 }
 
 #[inline(always)]
@@ -60,12 +51,12 @@ fn begins_again(event: &Event, before: &View, after: &View) -> bool
 }
 
 #[inline(always)]
-fn passed_by(strict: bool, event: &Event, before: &View, again: u64) -> u64
-    ensures { result ≡ passed_by strict event.now before.now again }
+fn passed_by(event: &Event, before: &View, again: u64) -> u64
+    ensures { result ≡ passed_by event.now before.now again }
 {
     match event {
         Event::Builds(plan) => {
-            if is_repeating(strict, before, plan) {
+            if is_repeating(before, plan) {
                 again.max(repeated_end(before, plan))
             } else {
                 again
@@ -81,21 +72,15 @@ fn passed_by(strict: bool, event: &Event, before: &View, again: u64) -> u64
     }
 }
 
-/// The position below which nothing may be sent again, after a step; `strict`: in version 6.
+/// The position below which nothing may be sent again, after a step.
 #[inline(always)]
-pub(crate) fn again_after(
-    strict: bool,
-    event: &Event,
-    before: &View,
-    after: &View,
-    again: u64,
-) -> u64
-    ensures { result ≡ again_after strict event.now before.now after.now again }
+pub(crate) fn again_after(event: &Event, before: &View, after: &View, again: u64) -> u64
+    ensures { result ≡ again_after event.now before.now after.now again }
 {
     if begins_again(event, before, after) {
         before.snd_una
     } else {
-        passed_by(strict, event, before, again)
+        passed_by(event, before, again)
     }
 }
 
@@ -119,20 +104,14 @@ fn judges_windows(judged: Judged) -> bool
     }
 }
 
-/// Whether a step builds a position again that was sent again already; `strict`: in version 6.
+/// Whether a step builds a position again that was sent again already.
 #[inline(always)]
-pub(crate) fn is_resent(
-    strict: bool,
-    judged: Judged,
-    event: &Event,
-    before: &View,
-    again: u64,
-) -> bool
-    ensures { result ≡ is_resent strict judged event.now before.now again }
+pub(crate) fn is_resent(judged: Judged, event: &Event, before: &View, again: u64) -> bool
+    ensures { result ≡ is_resent judged event.now before.now again }
 {
     match event {
         Event::Builds(plan) => {
-            judges_repeats(judged) && is_repeating(strict, before, plan) && plan.pos < again
+            judges_repeats(judged) && is_repeating(before, plan) && plan.pos < again
         }
         Event::Opens
         | Event::Calls { .. }

@@ -348,16 +348,12 @@ fn admits_limits(
     ensures { result_err result ≡ first_broken
         (limit_rules header.now touched.now limited.counts limited.lacks limited.due owed.now) }
 {
-    if is_resent(
-        header.version.says_sender(),
-        header.congestion,
-        &touched.event,
-        &touched.before,
-        owed.again,
-    ) {
+    let judges = !header.version.says_sender();
+    let (event, before) = (&touched.event, &touched.before);
+    if judges && is_resent(header.congestion, event, before, owed.again) {
         return Err(Rule::Resent);
     }
-    if is_resent_beyond(header.congestion, &touched.event, &touched.before) {
+    if judges && is_resent_beyond(header.congestion, event, before) {
         return Err(Rule::ResentBeyond);
     }
     if is_excess(limited.counts, owed.answers) || limited.lacks {
@@ -536,7 +532,6 @@ fn owed_in(table: &Table<Owed>, number: u64) -> Owed
 // copied before it is needed.
 #[inline(always)]
 fn note_in(
-    strict: bool,
     table: &mut Table<Owed>,
     moment: u64,
     listener_closed: Option<u64>,
@@ -545,34 +540,18 @@ fn note_in(
     after: &View,
 ) -> Result<(), OutOfMemory>
     ensures { OnOk result (table.new.entries ≡ insert_entry nat_eq table.old.entries touched.now.place
-        (owed_after touched.now.event touched.now.before after.now moment listener_closed strict counts
+        (owed_after touched.now.event touched.now.before after.now moment listener_closed counts
         (unwrap_or (lookup (nat_eq touched.now.place) table.old.entries) nothing))) }
 {
     let number = u64::from(touched.place);
     if !after.state.is_closed() {
         if let Some(owed) = table.get(number) {
-            let next = owed_open(
-                touched,
-                after,
-                moment,
-                listener_closed,
-                strict,
-                counts,
-                owed,
-            );
+            let next = owed_open(touched, after, moment, listener_closed, counts, owed);
             return table.insert(number, next);
         }
     }
     let owed = owed_in(table, number);
-    let next = owed_after(
-        touched,
-        after,
-        moment,
-        listener_closed,
-        strict,
-        counts,
-        &owed,
-    );
+    let next = owed_after(touched, after, moment, listener_closed, counts, &owed);
     table.insert(number, next)
 }
 
@@ -581,18 +560,16 @@ impl Duties {
     #[inline(always)]
     fn note_owed(
         &mut self,
-        strict: bool,
         moment: u64,
         counts: bool,
         touched: &TouchedEndpoint,
         after: &View,
     ) -> Result<(), OutOfMemory>
         ensures { OnOk result (self.new
-            ≡ record self.old { owed = owed_table_after strict after.now moment counts self.old touched.now }) }
+            ≡ record self.old { owed = owed_table_after after.now moment counts self.old touched.now }) }
     {
         let closed = self.listener_closed(touched.host, &touched.before);
         note_in(
-            strict,
             self.owed.get_mut(touched.host),
             moment,
             closed,
@@ -628,25 +605,19 @@ impl Duties {
         }
     }
 
-    // Notes a step, but not for the stricter duties; `strict`: in version 6.
+    // Notes a step, but not for the stricter duties.
     #[inline(always)]
     fn note_plain(
         &mut self,
-        strict: bool,
         moment: u64,
         seen: &Observation,
         after: &View,
     ) -> Result<(), OutOfMemory>
-        ensures { (slack : ℕ) → OnOk result (self.new
-            ≡ record (duties_after strict slack after.now moment seen.now self.old) {
-              strict = self.old.strict;
-              unsent = self.old.unsent;
-              credits = self.old.credits;
-            }) }
+        ensures { (slack : ℕ) → OnOk result (self.new ≡ duties_after false slack after.now moment seen.now self.old) }
     {
         let counts = counts_now(self.built_by(seen.built_change));
         if let Some(touched) = &seen.touched {
-            self.note_owed(strict, moment, counts, touched, after)?;
+            self.note_owed(moment, counts, touched, after)?;
             self.note_child(touched, after)?;
         }
         self.note_queueing(moment, seen.queueing)?;
@@ -668,6 +639,6 @@ impl Duties {
         ensures { OnOk result (self.new ≡ duties_after strict slack after.now moment seen.now self.old) }
     {
         self.note_if_strict(strict, slack, moment, seen, after)?;
-        self.note_plain(strict, moment, seen, after)
+        self.note_plain(moment, seen, after)
     }
 }

@@ -4,7 +4,7 @@
 ghost use Rattle.std.specs.Prelude.{◌≡◌, ◌*◌, ◌^◌, min, if◌then◌else◌};
 ghost use Rattle.spec_duties.specs.Strict.{answered_after, answered_often, asks_strictly};
 ghost use Rattle.spec_duties.specs.Strict.{builds_answer, clock_error, coarse_expiry_due, coarse_probing_due};
-ghost use Rattle.spec_duties.specs.Strict.{doubled_error, is_spared, longest_coarse_run};
+ghost use Rattle.spec_duties.specs.Strict.{doubled_error, is_fin_alone, is_spared, longest_coarse_run};
 ghost use Rattle.spec_duties.specs.Strict.{next_coarse_probe_due, nothing_strict, opens, rebuilds_oldest};
 ghost use Rattle.spec_duties.specs.Strict.{restarted_after, sends_oldest_or_probe, sends_probe, strict_after};
 ghost use Rattle.spec_duties.specs.Strict.{strict_lates, strict_probe_after, strict_retransmit_after, taken_over};
@@ -16,7 +16,7 @@ use crate::deadlines::{is_late, is_late_at_once};
 use crate::expire::has_expiry_due;
 use crate::owed::lates_of;
 use crate::probe::is_probing_segment;
-use crate::resent::{is_fin_alone, making_length};
+use crate::resent::making_length;
 use crate::retransmit::{acknowledges_more, holds, is_probe_timeout, is_timeout};
 use crate::sampling::timed_after;
 use case_forms::{SegmentPlan, State};
@@ -168,6 +168,13 @@ pub(crate) fn is_spared(event: &Event, before: &View) -> bool
     }
 }
 
+#[inline(always)]
+fn is_fin_alone(plan: &SegmentPlan, v: &View) -> bool
+    ensures { result ≡ is_fin_alone plan.now v.now }
+{
+    plan.flags.fin && plan.len == 0 && plan.pos < v.snd_max
+}
+
 // Whether a segment is built that holds the oldest unacknowledged position, which was built before.
 #[inline(always)]
 fn rebuilds_oldest(event: &Event, v: &View) -> bool
@@ -178,7 +185,7 @@ fn rebuilds_oldest(event: &Event, v: &View) -> bool
             v.snd_una < v.snd_max
                 && plan.pos <= v.snd_una
                 && v.snd_una - plan.pos < making_length(plan)
-                && !is_fin_alone(v, plan)
+                && !is_fin_alone(plan, v)
         }
         Event::Opens
         | Event::Calls { .. }

@@ -11,21 +11,22 @@ ghost use Rattle.verdict.specs.Rules.{first_broken};
 ghost use Rattle.window_rules.specs.Control.{greatest};
 
 use crate::signals::{at_moment, recovery_signal};
-use case_forms::RecoveryChange;
+use case_forms::{RecoveryChange, Version};
 use spec_tcp::Endpoint;
 use verdict::Rule;
 use window_rules::GREATEST_WINDOW;
 
 /// Whether fast recovery may begin at an endpoint, with this congestion window and slow start threshold (in bytes).
-/// None is undone. The error is the first rule that is broken.
+/// None is undone. From version 6 on, it may begin without duplicates. The error is the first rule that is broken.
 pub fn admits_recovery(
+    version: Version,
     endpoint: &Endpoint,
     change: RecoveryChange,
     cwnd: u32,
     ssthresh: u32,
     moment: u64,
 ) -> Result<(), Rule>
-    ensures { result_err result ≡ first_broken (recovery_rules endpoint.now change cwnd ssthresh moment) }
+    ensures { result_err result ≡ first_broken (recovery_rules version endpoint.now change cwnd ssthresh moment) }
 {
     if endpoint.state.is_closed() {
         return Err(Rule::NoEndpoint);
@@ -33,7 +34,7 @@ pub fn admits_recovery(
     if !endpoint.is_up() {
         return Err(Rule::State);
     }
-    if is_undone(change) || is_bad_recovery(endpoint, cwnd, ssthresh, moment) {
+    if is_undone(change) || is_bad_recovery(version, endpoint, cwnd, ssthresh, moment) {
         return Err(Rule::Recovery);
     }
     Ok(())
@@ -48,11 +49,17 @@ fn is_undone(change: RecoveryChange) -> bool
     }
 }
 
-fn is_bad_recovery(endpoint: &Endpoint, cwnd: u32, ssthresh: u32, moment: u64) -> bool
-    ensures { result ≡ is_bad_recovery endpoint.now cwnd ssthresh moment }
+fn is_bad_recovery(
+    version: Version,
+    endpoint: &Endpoint,
+    cwnd: u32,
+    ssthresh: u32,
+    moment: u64,
+) -> bool
+    ensures { result ≡ is_bad_recovery version endpoint.now cwnd ssthresh moment }
 {
     let greatest = greatest_recovery(endpoint, ssthresh, moment);
-    !endpoint.control.may_recover()
+    !(version.says_sender() || endpoint.control.may_recover())
         || endpoint.stream.snd_una == endpoint.snd_max()
         || greatest.1 < ssthresh as u64
         || greatest.0 < cwnd as u64

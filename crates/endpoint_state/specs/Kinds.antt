@@ -3,6 +3,7 @@ use Rattle.std.specs.Prelude.{ℕ, nat_eq, Bool, true, not, List, [], Some}
 use Rattle.indexmap.specs.IndexMap.{insert_entry}
 use Rattle.case_forms.specs.Versions.{is_half}
 use Rattle.case_forms.specs.declared.trace.Header.{Header}
+use Rattle.case_forms.specs.declared.version.Version.{Version}
 use Rattle.case_forms.specs.declared.trace.Wire.{Wire}
 use Rattle.case_forms.specs.declared.calls.Host.{Host}
 use Rattle.case_forms.specs.declared.calls.Ports.{Ports}
@@ -74,8 +75,8 @@ abbrev pub expired_body : (moment : ℕ) → Ports → Expired → HostTcp → H
 expired_body moment ports e b = at_ports b ports.lport ports.rport (λ x. after_expiry x e moment)
 
 -- the same for fast recovery
-abbrev pub recovering_rules : (moment : ℕ) → Recovery → HostTcp → List (Rule × Bool)
-recovering_rules moment r b = rules_at b r.lport r.rport (λ x. recovery_rules x r.change r.cwnd r.ssthresh moment)
+abbrev pub recovering_rules : Version → (moment : ℕ) → Recovery → HostTcp → List (Rule × Bool)
+recovering_rules v moment r b = rules_at b r.lport r.rport (λ x. recovery_rules v x r.change r.cwnd r.ssthresh moment)
 
 abbrev pub recovered_body : (moment : ℕ) → Recovery → HostTcp → HostTcp
 recovered_body moment r b = at_ports b r.lport r.rport (λ x. after_recovery x r.cwnd r.ssthresh moment)

@@ -215,14 +215,19 @@ pub(crate) fn expire(
 }
 
 /// Fast recovery begins. The error is the first broken rule; nothing is changed then.
-pub(crate) fn recover(host: &mut HostState, recovery: Recovery, moment: u64) -> Result<(), Rule>
+pub(crate) fn recover(
+    version: Version,
+    host: &mut HostState,
+    recovery: Recovery,
+    moment: u64,
+) -> Result<(), Rule>
     requires { IsReady host.old }
-    ensures rule { result_err result ≡ first_broken (recovering_rules moment recovery host.old.body) }
+    ensures rule { result_err result ≡ first_broken (recovering_rules version moment recovery host.old.body) }
     ensures ok { OnOk result (host.new ≡ forget_host
         (record host.old { body = recovered_body moment recovery host.old.body })) }
     ensures err { OnErr result (host.new ≡ host.old) }
 {
-    host.body.recover(recovery, moment)
+    host.body.recover(version, recovery, moment)
 }
 
 /// A call that may have this answer has its effect.
@@ -393,10 +398,15 @@ impl HostState {
     }
 
     /// Whether fast recovery may begin. The error is the first broken rule.
-    pub(crate) fn admits_recovery(&self, recovery: Recovery, moment: u64) -> Result<(), Rule>
-        ensures { result_err result ≡ first_broken (recovering_rules moment recovery self.now.body) }
+    pub(crate) fn admits_recovery(
+        &self,
+        version: Version,
+        recovery: Recovery,
+        moment: u64,
+    ) -> Result<(), Rule>
+        ensures { result_err result ≡ first_broken (recovering_rules version moment recovery self.now.body) }
     {
-        self.body.admitted_recovery(recovery, moment)?;
+        self.body.admitted_recovery(version, recovery, moment)?;
         Ok(())
     }
 }

@@ -270,7 +270,9 @@ impl World {
         ensures { result_err result ≡ first_broken
             (step_rules (tcp self.now.header) moment self.now.world (At host (Does recovery))) }
     {
-        self.hosts.near(host).admits_recovery(recovery, moment)
+        self.hosts
+            .near(host)
+            .admits_recovery(self.header.version, recovery, moment)
     }
 
     /// A thread begins a call. The error is the broken rule, or that memory ran out; the world is then as it was.
@@ -481,7 +483,8 @@ impl World {
         ensures ok { OnOk result (self.new ≡ after self.old moment (At host (Does recovery))) }
         ensures err { OnErr result (self.new ≡ self.old) }
     {
-        host::recover(self.hosts.side(host), recovery, moment)?;
+        let version = self.header.version;
+        host::recover(version, self.hosts.side(host), recovery, moment)?;
         self.steps += 1;
         Ok(())
     }

@@ -75,13 +75,13 @@ asks_is old breaks e m sent (CouldBeProcessed rst is) = λ i. asks_by old (sent 
 asks_is old breaks e m sent (IsChallenged rst other is) = λ i. asks_by old (sent i) (rst i) m.flags.ack (not_next e m other i) (is i)
 
 -- the duty arises
-asks_begins : (unlimited : Bool) (before after : View) (moment : ℕ) (listener : Option ℕ) (strict counts : Bool) (o : Owed)
+asks_begins : (unlimited : Bool) (before after : View) (moment : ℕ) (listener : Option ℕ) (counts : Bool) (o : Owed)
     → (unlimited ≡ true) ⊎ (answered_lately moment o.acknowledged ≡ false)
     → (is_closed after.state ≡ true)
-    ⊎ ((since : ℕ) × ((owed_after (Drops true unlimited) before after moment listener strict counts o).acknowledge ≡ Some since))
-asks_begins unlimited before after moment listener strict counts o due =
+    ⊎ ((since : ℕ) × ((owed_after (Drops true unlimited) before after moment listener counts o).acknowledge ≡ Some since))
+asks_begins unlimited before after moment listener counts o due =
     open_or_closed (λ n. (is_closed after.state ≡ true) ⊎ ((since : ℕ) × (n.acknowledge ≡ Some since)))
-    (Drops true unlimited) before after moment listener strict counts o
+    (Drops true unlimited) before after moment listener counts o
     (λ closed. inl closed) (inr (kept (due_now unlimited (answered_lately moment o.acknowledged) due)))
   where
     due_now : (a b : Bool) → (a ≡ true) ⊎ (b ≡ false) → (true && (a || not b)) ≡ true
@@ -99,11 +99,10 @@ asks_begins unlimited before after moment listener strict counts o due =
 
 -- ---- when a segment with ACK was sent last
 
-acknowledged_is : (event : Event) (before after : View) (moment : ℕ) (listener : Option ℕ) (strict counts : Bool) (o : Owed)
-    → (owed_after event before after moment listener strict counts o).acknowledged ≡ acknowledged_after event moment o.acknowledged
-acknowledged_is event before after moment listener strict counts o =
-    open_or_closed (λ n. n.acknowledged ≡ acknowledged_after event moment o.acknowledged) event before after moment listener strict counts o
-    (λ closed. refl) refl
+acknowledged_is : (event : Event) (before after : View) (moment : ℕ) (listener : Option ℕ) (counts : Bool) (o : Owed)
+    → (owed_after event before after moment listener counts o).acknowledged ≡ acknowledged_after event moment o.acknowledged
+acknowledged_is event before after moment listener counts o =
+    open_or_closed (λ n. n.acknowledged ≡ acknowledged_after event moment o.acknowledged) event before after moment listener counts o (λ closed. refl) refl
 
 -- a segment with ACK was sent before this place
 record SentAck (t : Trace) (w : Witness) (me : EndpointId) (to since : ℕ) : Type 0 where
@@ -161,8 +160,8 @@ module _ (t : Trace) (w : Witness) (slack : ℕ) (r : Run t.header slack (length
             let owes = owes_of t w slack r j x me at.event is at.shows in
             by_event j x at.event (happens_from t w j x me at.event is at.shows) all since
             (sym (ap (λ (o : Owed). o.acknowledged) owes.after
-            ∙ acknowledged_is at.event (seen (known_before t w j).model me) (seen (known_before t w (suc j)).model me) x.moment
-            owes.listener owes.strict owes.counts (owed_by (known_before t w j).duties me.host me.number)) ∙ now)
+            ∙ acknowledged_is at.event (seen (known_before t w j).model me) (seen (known_before t w (suc j)).model me) x.moment owes.listener owes.counts
+            (owed_by (known_before t w j).duties me.host me.number)) ∙ now)
 
     -- none was sent lately
     not_lately : (place moment : ℕ) → place ≤ length w.steps → SentNoneLately t w place moment me
@@ -204,8 +203,7 @@ module _ (t : Trace) (w : Witness) (slack : ℕ) (r : Run t.header slack (length
       arises t w slack r placed late me (λ o. o.acknowledge) longest_delay Answers (λ l. l.acknowledge) acknowledge_duty
       (plain_same (λ l. l.acknowledge) t.header slack plain) place moment
       (Drops true (has_content m)) happens
-      (λ before after now listener strict counts o is next same old.
-      asks_begins (has_content m) before after now listener strict counts o (limits now o same old due))
+      (λ before after now listener counts o is next same old. asks_begins (has_content m) before after now listener counts o (limits now o same old due))
     where
       happens : Happens t w place moment me (Drops true (has_content m))
       happens =

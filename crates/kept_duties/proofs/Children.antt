@@ -280,7 +280,7 @@ module _ (t : Trace) (w : Witness) (slack : ℕ) (r : Run t.header slack (length
               (reset_wait since.0 (moment + slack) slack (omega (arith, old))) (reset_same t.header slack) late y.moment touch.event
               (happens_from t w j y me touch.event at touch.shows) refl
               (ap (λ (o : Owed). o.reset) owes.after
-              ∙ reset_is touch.event before after' y.moment owes.listener owes.strict owes.counts o
+              ∙ reset_is touch.event before after' y.moment owes.listener owes.counts o
               ∙ ap (λ (b : Bool). if b then None
               else option_or (reset_since before owes.listener o.reset) (if aborts touch.event after' then Some y.moment else None)) none
               ∙ ap (λ (n : Option ℕ). option_or n (if aborts touch.event after' then Some y.moment else None)) since_is))

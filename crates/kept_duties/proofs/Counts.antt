@@ -81,13 +81,12 @@ event_here v me event =
     ∙ ap (λ (b : Bool). if b then Some event else None) number
 
 -- the answers of an endpoint, in which CLOSED changes nothing
-answers_is : (event : Event) (before after : View) (moment : ℕ) (listener : Option ℕ) (strict counts : Bool) (o : Owed)
-    → (owed_after event before after moment listener strict counts o).answers ≡ answers_after event before counts o.answers
-answers_is event before after moment listener strict counts o = by (is_closed after.state)
+answers_is : (event : Event) (before after : View) (moment : ℕ) (listener : Option ℕ) (counts : Bool) (o : Owed)
+    → (owed_after event before after moment listener counts o).answers ≡ answers_after event before counts o.answers
+answers_is event before after moment listener counts o = by (is_closed after.state)
   where
     by : (c : Bool)
-        → (if c then once_closed (owed_open event before after moment listener strict counts o)
-        else owed_open event before after moment listener strict counts o).answers
+        → (if c then once_closed (owed_open event before after moment listener counts o) else owed_open event before after moment listener counts o).answers
         ≡ answers_after event before counts o.answers
     by true = refl
     by false = refl
@@ -462,7 +461,7 @@ module _ (t : Trace) (w : Witness) (slack : ℕ) (given : t.header.slack ≡ Som
           let before = seen (known_before t w j).model me in
           let now : left (suc j) ≡ answers_after touch.event before owes.counts (left j) =
           ap (λ (o : Owed). o.answers) owes.after
-          ∙ answers_is touch.event before (seen (known_before t w (suc j)).model me) y.moment owes.listener owes.strict owes.counts
+          ∙ answers_is touch.event before (seen (known_before t w (suc j)).model me) y.moment owes.listener owes.counts
           (owed_by (known_before t w j).duties me.host me.number) in
           subst (λ (n : ℕ). (if sends_mere_at t w me j then suc (count_before (sends_mere_at t w me) j) else count_before (sends_mere_at t w me) j) + n
           ≤ (if comes_at t w me j then suc (count_before (comes_at t w me) j) else count_before (comes_at t w me) j)) (sym now)

@@ -63,10 +63,10 @@ as_open_self first = by (nat_lt 0 first) refl
     by true is = is
     by false is = grind (arith, nat_tests, is)
 
-opened_is : (event : Event) (before after : View) (moment : ℕ) (listener : Option ℕ) (strict counts : Bool) (o : Owed)
-    → (owed_after event before after moment listener strict counts o).opened ≡ opened_after before after moment o.opened
-opened_is event before after moment listener strict counts o =
-    open_or_closed (λ n. n.opened ≡ opened_after before after moment o.opened) event before after moment listener strict counts o (λ closed. refl) refl
+opened_is : (event : Event) (before after : View) (moment : ℕ) (listener : Option ℕ) (counts : Bool) (o : Owed)
+    → (owed_after event before after moment listener counts o).opened ≡ opened_after before after moment o.opened
+opened_is event before after moment listener counts o =
+    open_or_closed (λ n. n.opened ≡ opened_after before after moment o.opened) event before after moment listener counts o (λ closed. refl) refl
 
 -- what it means that the timer runs on
 record RunsOn (since : ℕ) (first now : View) : Type 0 where
@@ -103,22 +103,21 @@ expiry_wait : (since from slack : ℕ) (first : View) → since ≤ from
     → Wait (λ o. o.opened ≤ from) TimesOut (λ v. not (runs_on since first v)) (λ l. l.expire) slack (from + run_time first + slack)
 expiry_wait since from slack first low = record { onward = onward'; rules = λ l all. all.1.0; either = λ a b. refl; fine = fine }
   where
-    onward' : (event : Event) (before after : View) (moment : ℕ) (listener : Option ℕ) (strict counts : Bool) (o : Owed)
-        → not (runs_on since first before) ≡ false
+    onward' : (event : Event) (before after : View) (moment : ℕ) (listener : Option ℕ) (counts : Bool) (o : Owed) → not (runs_on since first before) ≡ false
         → o.opened ≤ from
         → TimesOut event before after ⊎ (not (runs_on since first after) ≡ true)
-        ⊎ ((owed_after event before after moment listener strict counts o).opened ≤ from)
-    onward' event before after moment listener strict counts o runs opened = test (runs_on since first after) refl
+        ⊎ ((owed_after event before after moment listener counts o).opened ≤ from)
+    onward' event before after moment listener counts o runs opened = test (runs_on since first after) refl
       where
         test : (b : Bool) → runs_on since first after ≡ b
             → TimesOut event before after ⊎ (not (runs_on since first after) ≡ true)
-            ⊎ ((owed_after event before after moment listener strict counts o).opened ≤ from)
+            ⊎ ((owed_after event before after moment listener counts o).opened ≤ from)
         test false stops = inr (inl (ap not stops))
         test true on' =
             let was = runs_parts since first before (not_false (runs_on since first before) runs) in
             let now = runs_parts since first after on' in
-            let same : (owed_after event before after moment listener strict counts o).opened ≡ o.opened =
-            opened_is event before after moment listener strict counts o
+            let same : (owed_after event before after moment listener counts o).opened ≡ o.opened =
+            opened_is event before after moment listener counts o
             ∙ ap (λ (b : Bool). if b then moment else o.opened) (not_opened first.snd_wnd before.snd_wnd after.snd_wnd was.window now.window) in
             inr (inr (subst (λ (n : ℕ). n ≤ from) (sym same) opened))
 
@@ -161,7 +160,7 @@ module _ (t : Trace) (w : Witness) (slack : ℕ) (r : Run t.header slack (length
           let o = owed_by (known_before t w j).duties me.host me.number in
           let owes = owes_of t w slack r j x me at.event is at.shows in
           subst (λ (n : ℕ). n ≤ from)
-          (sym (ap (λ (o : Owed). o.opened) owes.after ∙ opened_is at.event before after x.moment owes.listener owes.strict owes.counts o))
+          (sym (ap (λ (o : Owed). o.opened) owes.after ∙ opened_is at.event before after x.moment owes.listener owes.counts o))
           (by (before.snd_wnd == 0 && nat_lt 0 after.snd_wnd) refl)
         where
           by : (b : Bool) → ((seen (known_before t w j).model me).snd_wnd == 0 && nat_lt 0 (seen (known_before t w (suc j)).model me).snd_wnd) ≡ b

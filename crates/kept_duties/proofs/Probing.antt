@@ -71,10 +71,10 @@ probing_test (Expires Persist) v = refl
 probing_test (Sends s) v = refl
 probing_test event v = refl
 
-probing_is : (event : Event) (before after : View) (moment : ℕ) (listener : Option ℕ) (strict counts : Bool) (o : Owed) (p : Option Probes)
+probing_is : (event : Event) (before after : View) (moment : ℕ) (listener : Option ℕ) (counts : Bool) (o : Owed) (p : Option Probes)
     → o.probing ≡ option_map probing_of p
-    → (owed_after event before after moment listener strict counts o).probing ≡ option_map probing_of (probes_after event before after moment p)
-probing_is event before after moment listener strict counts o p is = by (is_closed after.state) (is_shut after)
+    → (owed_after event before after moment listener counts o).probing ≡ option_map probing_of (probes_after event before after moment p)
+probing_is event before after moment listener counts o p is = by (is_closed after.state) (is_shut after)
   where
     probed : (b : Bool) (q : Probes)
         → (if b then record { since = moment; factor = min (2 * min (2 ^ q.count) greatest_factor) greatest_factor } else probing_of q)
@@ -94,12 +94,12 @@ probing_is event before after moment listener strict counts o p is = by (is_clos
         ∙ ap (λ (g : Probing). Some g) (probed (is_probing event before) q)
 
     by : (c d : Bool)
-        → (if c then once_closed (record (owed_open event before after moment listener strict counts o) {
+        → (if c then once_closed (record (owed_open event before after moment listener counts o) {
           probing =
               if d then Some (option_map_or (still_probing event before moment) o.probing (first_probing moment))
               else None;
         })
-        else record (owed_open event before after moment listener strict counts o) {
+        else record (owed_open event before after moment listener counts o) {
           probing =
               if d then Some (option_map_or (still_probing event before moment) o.probing (first_probing moment))
               else None;
@@ -125,20 +125,20 @@ probe_wait : (rto slack : ℕ) (p : Probes) → rto * 2 ^ p.count < longest_rto
     → Wait (λ o. o.probing ≡ Some (probing_of p)) ProbesIt (λ v. not (awaits_probe rto v)) (λ l. l.probe) slack (p.since + rto * 2 ^ p.count + slack)
 probe_wait rto slack p low = record { onward = onward'; rules = λ l all. all.1.1.1.0; either = λ a b. refl; fine = fine }
   where
-    onward' : (event : Event) (before after : View) (moment : ℕ) (listener : Option ℕ) (strict counts : Bool) (o : Owed) → not (awaits_probe rto before) ≡ false
+    onward' : (event : Event) (before after : View) (moment : ℕ) (listener : Option ℕ) (counts : Bool) (o : Owed) → not (awaits_probe rto before) ≡ false
         → o.probing ≡ Some (probing_of p)
         → ProbesIt event before after ⊎ (not (awaits_probe rto after) ≡ true)
-        ⊎ ((owed_after event before after moment listener strict counts o).probing ≡ Some (probing_of p))
-    onward' event before after moment listener strict counts o awaits is = by (is_probing event before) (awaits_probe rto after) refl refl
+        ⊎ ((owed_after event before after moment listener counts o).probing ≡ Some (probing_of p))
+    onward' event before after moment listener counts o awaits is = by (is_probing event before) (awaits_probe rto after) refl refl
       where
         by : (a b : Bool) → is_probing event before ≡ a → awaits_probe rto after ≡ b
             → ProbesIt event before after ⊎ (not (awaits_probe rto after) ≡ true)
-            ⊎ ((owed_after event before after moment listener strict counts o).probing ≡ Some (probing_of p))
+            ⊎ ((owed_after event before after moment listener counts o).probing ≡ Some (probing_of p))
         by true b probes awaits = inl probes
         by false false none stops = inr (inl (ap not stops))
         by false true none awaits =
             let now = awaits_parts rto after awaits in
-            inr (inr (probing_is event before after moment listener strict counts o (Some p) is
+            inr (inr (probing_is event before after moment listener counts o (Some p) is
             ∙ ap (λ (c : Bool). option_map probing_of (if not c && is_shut after then Some (still_probed event before moment p)
             else None)) now.open'
             ∙ ap (λ (c : Bool). option_map probing_of (if true && c then Some (still_probed event before moment p) else None)) now.work
@@ -215,8 +215,7 @@ module _ (t : Trace) (w : Witness) (slack : ℕ) (r : Run t.header slack (length
           let here : event_for me (observe t.header x.moment (known_before t w j).model x.step).touched ≡ Some touch.event =
           ap (event_for me) touch.shows ∙ event_here (known_before t w j).model me touch.event in
           ap (λ (o : Owed). o.probing) owes.after
-          ∙ probing_is touch.event before after x.moment owes.listener owes.strict owes.counts
-          (owed_by (known_before t w j).duties me.host me.number) probes old
+          ∙ probing_is touch.event before after x.moment owes.listener owes.counts (owed_by (known_before t w j).duties me.host me.number) probes old
           ∙ ap (λ (v : World tcp_shape). option_map probing_of (probes_after touch.event (seen v me) after x.moment probes)) (world_is t w j)
           ∙ ap (λ (v : World tcp_shape). option_map probing_of (probes_after touch.event (seen_before t w j me) (seen v me) x.moment probes))
           (world_is t w (suc j))

@@ -3,7 +3,6 @@ use Rattle.std.proofs.Common.{◌≡◌, ℕ, suc, ◌+◌, ◌<◌, ◌≤◌, 
 use Rattle.std.specs.Prelude.{◌&&◌, if◌then◌else◌, max, nat_le, nat_lt, not}
 use Rattle.std.proofs.lemmas.Bool.Decides.{nat_tests}
 use Rattle.case_forms.specs.States.{is_closed}
-use Rattle.case_forms.specs.Versions.{says_sender}
 use Rattle.case_forms.specs.declared.steps.SegmentPlan.{SegmentPlan}
 use Rattle.case_forms.specs.declared.steps.Witness.{Witness}
 use Rattle.case_forms.specs.declared.timer.Timer.TheVariants.{Persist, Rto}
@@ -30,14 +29,13 @@ use Rattle.kept_duties.proofs.Runs.{Goes, Run, run_goes, run_keeps, world_is}
 use Rattle.kept_duties.proofs.Segments.{within}
 use Rattle.kept_duties.proofs.Touched.{Owes, Touches, owes_after, seen, touched, touches_or_not}
 
-again_is : (event : Event) (before after : View) (moment : ℕ) (listener : Option ℕ) (strict counts : Bool) (o : Owed)
-    → (owed_after event before after moment listener strict counts o).again ≡ again_after strict event before after o.again
-again_is event before after moment listener strict counts o = by (is_closed after.state)
+again_is : (event : Event) (before after : View) (moment : ℕ) (listener : Option ℕ) (counts : Bool) (o : Owed)
+    → (owed_after event before after moment listener counts o).again ≡ again_after event before after o.again
+again_is event before after moment listener counts o = by (is_closed after.state)
   where
     by : (c : Bool)
-        → (if c then once_closed (owed_open event before after moment listener strict counts o)
-        else owed_open event before after moment listener strict counts o).again
-        ≡ again_after strict event before after o.again
+        → (if c then once_closed (owed_open event before after moment listener counts o) else owed_open event before after moment listener counts o).again
+        ≡ again_after event before after o.again
     by true = refl
     by false = refl
 
@@ -56,19 +54,19 @@ begins_is (Processes length rst) before after = refl
 begins_is event before after = refl
 
 repeats_is : (t : Trace) (w : Witness) (place : ℕ) (me : EndpointId) (m : SegmentPlan) → BuildsAgain t w place me m
-    → is_repeating (says_sender t.header.version) (seen_before t w place me) m ≡ true
+    → is_repeating (seen_before t w place me) m ≡ true
 repeats_is t w place me m a =
     let old = less_to m.pos (seen_before t w place me).snd_max a.again in
     let some = less_to 0 (making_length m) a.some in
-    (λ i. old i && some i && not (a.not_syn_ack i) && not (a.no_reset i) && not (a.no_fin_alone i))
+    (λ i. old i && some i && not (a.not_syn_ack i) && not (a.no_reset i))
 
-passed_grows : (strict : Bool) (event : Event) (before : View) (again : ℕ) → again ≤ passed_by strict event before again
-passed_grows strict (Builds m) before again = by (is_repeating strict before m)
+passed_grows : (event : Event) (before : View) (again : ℕ) → again ≤ passed_by event before again
+passed_grows (Builds m) before again = by (is_repeating before m)
   where
     by : (b : Bool) → again ≤ (if b then max again (repeated_end before m) else again)
     by true = omega arith
     by false = omega arith
-passed_grows strict event before again = omega arith
+passed_grows event before again = omega arith
 
 -- an act by what is known
 pub happens_to : (t : Trace) (w : Witness) (place moment : ℕ) (me : EndpointId) (event : Event) → (a : Happens t w place moment me event)
@@ -110,13 +108,11 @@ module _ (t : Trace) (w : Witness) (slack : ℕ) (r : Run t.header slack (length
         let x = a.happens.act in
         let k = known_before t w first in
         let owes = owes_of first x me (Builds p) a.happens.is (happens_to t w first a.moment me (Builds p) a.happens) in
-        let repeats : is_repeating owes.strict (seen k.model me) p ≡ true =
-        ap (λ (b : Bool). is_repeating b (seen k.model me) p) owes.judges
-        ∙ subst (λ (v : World tcp_shape). is_repeating (says_sender t.header.version) (seen v me) p ≡ true) (sym (world_is t w first))
-        (repeats_is t w first me p a) in
+        let repeats : is_repeating (seen k.model me) p ≡ true =
+        subst (λ (v : World tcp_shape). is_repeating (seen v me) p ≡ true) (sym (world_is t w first)) (repeats_is t w first me p a) in
         let now : again (known_before t w (suc first)) ≡ max (again k) (repeated_end (seen k.model me) p) =
         ap (λ (o : Owed). o.again) owes.after
-        ∙ again_is (Builds p) (seen k.model me) (seen (known_before t w (suc first)).model me) x.moment owes.listener owes.strict owes.counts
+        ∙ again_is (Builds p) (seen k.model me) (seen (known_before t w (suc first)).model me) x.moment owes.listener owes.counts
         (owed_by k.duties me.host me.number)
         ∙ ap (λ (c : Bool). if c then max (again k) (repeated_end (seen k.model me) p) else again k) repeats in
         let same : repeated_end (seen k.model me) p ≡ ends = ap (λ (v : World tcp_shape). repeated_end (seen v me) p) (world_is t w first) in
@@ -145,11 +141,11 @@ module _ (t : Trace) (w : Witness) (slack : ℕ) (r : Run t.header slack (length
             ∙ ap (λ (v : World tcp_shape). begins_again at.event (seen_before t w j me) (seen v me)) (world_is t w (suc j))
             ∙ begins_is at.event (seen_before t w j me) (seen_before t w (suc j) me)
             ∙ nothing j y.moment at.event (omega arith) high (happens_from t w j y me at.event is at.shows) in
-            let now : again (known_before t w (suc j)) ≡ passed_by owes.strict at.event before (again (known_before t w j)) =
+            let now : again (known_before t w (suc j)) ≡ passed_by at.event before (again (known_before t w j)) =
             ap (λ (o : Owed). o.again) owes.after
-            ∙ again_is at.event before after y.moment owes.listener owes.strict owes.counts (owed_by (known_before t w j).duties me.host me.number)
-            ∙ ap (λ (c : Bool). if c then before.snd_una else passed_by owes.strict at.event before (again (known_before t w j))) none in
-            let grows = passed_grows owes.strict at.event before (again (known_before t w j)) in
+            ∙ again_is at.event before after y.moment owes.listener owes.counts (owed_by (known_before t w j).duties me.host me.number)
+            ∙ ap (λ (c : Bool). if c then before.snd_una else passed_by at.event before (again (known_before t w j))) none in
+            let grows = passed_grows at.event before (again (known_before t w j)) in
             omega (arith, now, grows, old')
 
     pub comes_behind : ends ≤ q.pos
@@ -160,11 +156,9 @@ module _ (t : Trace) (w : Witness) (slack : ℕ) (r : Run t.header slack (length
         let kept = run_keeps t.header slack (length w.steps) (act_at t w) (known_before t w) r (λ j k. ends ≤ again k) (λ j k p. p) (suc first) second
         (omega (arith, less)) (omega (arith, low)) began goes_on in
         let owes = owes_of second y me (Builds q) b.happens.is (happens_to t w second b.moment me (Builds q) b.happens) in
-        let repeats : is_repeating owes.strict (seen k.model me) q ≡ true =
-        ap (λ (b : Bool). is_repeating b (seen k.model me) q) owes.judges
-        ∙ subst (λ (v : World tcp_shape). is_repeating (says_sender t.header.version) (seen v me) q ≡ true) (sym (world_is t w second))
-        (repeats_is t w second me q b) in
-        at_most q.pos (again k) kept (sym (ap (λ (c : Bool). c && is_repeating owes.strict (seen k.model me) q && nat_lt q.pos (again k)) judged
+        let repeats : is_repeating (seen k.model me) q ≡ true =
+        subst (λ (v : World tcp_shape). is_repeating (seen v me) q ≡ true) (sym (world_is t w second)) (repeats_is t w second me q b) in
+        at_most q.pos (again k) kept (sym (ap (λ (c : Bool). c && is_repeating (seen k.model me) q && nat_lt q.pos (again k)) judged
         ∙ ap (λ (c : Bool). true && c && nat_lt q.pos (again k)) repeats) ∙ owes.resent)
       where
         at_most : (pos n : ℕ) → ends ≤ n → nat_lt pos n ≡ false → ends ≤ pos

@@ -123,19 +123,19 @@ none_first h One place = refl
 
 -- ---- the duty
 
-pub reset_is : (event : Event) (before after : View) (moment : ℕ) (listener : Option ℕ) (strict counts : Bool) (o : Owed)
-    → (owed_after event before after moment listener strict counts o).reset
+pub reset_is : (event : Event) (before after : View) (moment : ℕ) (listener : Option ℕ) (counts : Bool) (o : Owed)
+    → (owed_after event before after moment listener counts o).reset
     ≡ (if sends_reset event then None else option_or (reset_since before listener o.reset) (if aborts event after then Some moment else None))
-reset_is event before after moment listener strict counts o =
+reset_is event before after moment listener counts o =
     open_or_closed (λ n. n.reset ≡ (if sends_reset event then None
-    else option_or (reset_since before listener o.reset) (if aborts event after then Some moment else None))) event before after moment listener strict counts o
+    else option_or (reset_since before listener o.reset) (if aborts event after then Some moment else None))) event before after moment listener counts o
     (λ closed. refl) refl
 
 -- since when it is owed: the moment of an act, or that at which the listener was closed
-reset_back : (event : Event) (before after : View) (moment : ℕ) (listener : Option ℕ) (strict counts : Bool) (o : Owed) (since : ℕ)
-    → (owed_after event before after moment listener strict counts o).reset ≡ Some since → (since ≡ moment) ⊎ (listener ≡ Some since) ⊎ (o.reset ≡ Some since)
-reset_back event before after moment listener strict counts o since is =
-    by (sends_reset event) (aborts event after) before.resets o.reset (sym (reset_is event before after moment listener strict counts o) ∙ is)
+reset_back : (event : Event) (before after : View) (moment : ℕ) (listener : Option ℕ) (counts : Bool) (o : Owed) (since : ℕ)
+    → (owed_after event before after moment listener counts o).reset ≡ Some since → (since ≡ moment) ⊎ (listener ≡ Some since) ⊎ (o.reset ≡ Some since)
+reset_back event before after moment listener counts o since is =
+    by (sends_reset event) (aborts event after) before.resets o.reset (sym (reset_is event before after moment listener counts o) ∙ is)
   where
     listens : (l : Option ℕ) (b : Bool) → option_or l (if b then Some moment else None) ≡ Some since → (since ≡ moment) ⊎ (l ≡ Some since)
     listens None true is = inl (sym (same_Some moment since is))
@@ -173,15 +173,15 @@ late_reset slack moment v listener o = by (is_closed v.state)
 pub reset_wait : (since by slack : ℕ) → since + slack ≤ by → Wait (λ o. o.reset ≡ Some since) SendsReset (λ v. false) (λ l. l.reset) slack by
 reset_wait since by slack low = record { onward = onward'; rules = λ l all. all.1.1.1.1.1.0; either = λ a b. refl; fine = fine }
   where
-    onward' : (event : Event) (before after : View) (moment : ℕ) (listener : Option ℕ) (strict counts : Bool) (o : Owed) → false ≡ false → o.reset ≡ Some since
-        → SendsReset event before after ⊎ (false ≡ true) ⊎ ((owed_after event before after moment listener strict counts o).reset ≡ Some since)
-    onward' event before after moment listener strict counts o same is = test (sends_reset event) refl
+    onward' : (event : Event) (before after : View) (moment : ℕ) (listener : Option ℕ) (counts : Bool) (o : Owed) → false ≡ false → o.reset ≡ Some since
+        → SendsReset event before after ⊎ (false ≡ true) ⊎ ((owed_after event before after moment listener counts o).reset ≡ Some since)
+    onward' event before after moment listener counts o same is = test (sends_reset event) refl
       where
         test : (b : Bool) → sends_reset event ≡ b
-            → SendsReset event before after ⊎ (false ≡ true) ⊎ ((owed_after event before after moment listener strict counts o).reset ≡ Some since)
+            → SendsReset event before after ⊎ (false ≡ true) ⊎ ((owed_after event before after moment listener counts o).reset ≡ Some since)
         test true sends = inl (sends_from event before after sends)
         test false none =
-            inr (inr (reset_is event before after moment listener strict counts o
+            inr (inr (reset_is event before after moment listener counts o
             ∙ ap (λ (b : Bool). if b then None else option_or (reset_since before listener o.reset) (if aborts event after then Some moment else None)) none
             ∙ ap (λ (q : Option ℕ). option_or (reset_since before listener q) (if aborts event after then Some moment else None)) is))
 
@@ -238,7 +238,7 @@ module _ (t : Trace) (w : Witness) (slack : ℕ) (r : Run t.header slack (length
       next j x is all since now (inl at) =
           let owes = owes_of t w slack r j x me at.event is at.shows in
           by owes.listens (reset_back at.event (seen (known_before t w j).model me) (seen (known_before t w (suc j)).model me) x.moment
-          owes.listener owes.strict owes.counts
+          owes.listener owes.counts
           (owed_by (known_before t w j).duties me.host me.number) since (sym (ap (λ (o : Owed). o.reset) owes.after) ∙ now))
         where
           -- the listener that created the endpoint
@@ -279,11 +279,11 @@ module _ (t : Trace) (w : Witness) (slack : ℕ) (r : Run t.header slack (length
       since_or None = (a.act.moment, refl)
       since_or (Some m) = (m, refl)
 
-      owed : (since : ℕ) × ((owed_after (Calls true) before after' a.act.moment owes.listener owes.strict owes.counts o).reset ≡ Some since)
+      owed : (since : ℕ) × ((owed_after (Calls true) before after' a.act.moment owes.listener owes.counts o).reset ≡ Some since)
       owed =
           let s = since_or (reset_since before owes.listener o.reset) in (
             s.0,
-            reset_is (Calls true) before after' a.act.moment owes.listener owes.strict owes.counts o
+            reset_is (Calls true) before after' a.act.moment owes.listener owes.counts o
                 ∙ ap (λ (b : Bool). option_or (reset_since before owes.listener o.reset) (if true && b then Some a.act.moment else None)) resets_now
                 ∙ s.1,
           )

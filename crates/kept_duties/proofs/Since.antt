@@ -51,8 +51,8 @@ use Rattle.kept_duties.proofs.Touched.{Owes, Touches, lates_plain, seen, there_a
 
 -- what an endpoint is to do: while what it owes is like this, and its state isn't one that ends it, it isn't late by this moment
 pub record Wait (Inv : Owed → Type 0) (Kind : Event → (before after : View) → Type 0) (Is : View → Bool) (sel : Lates → Bool) (slack by : ℕ) : Type 0 where
-  pub onward : (event : Event) (before after : View) (moment : ℕ) (listener : Option ℕ) (strict counts : Bool) (o : Owed) → Is before ≡ false → Inv o
-      → Kind event before after ⊎ (Is after ≡ true) ⊎ Inv (owed_after event before after moment listener strict counts o)
+  pub onward : (event : Event) (before after : View) (moment : ℕ) (listener : Option ℕ) (counts : Bool) (o : Owed) → Is before ≡ false → Inv o
+      → Kind event before after ⊎ (Is after ≡ true) ⊎ Inv (owed_after event before after moment listener counts o)
   pub rules : (l : Lates) → AllByRecursion (λ r. r.1 ≡ false) (late_rules l) → sel l ≡ false
   pub either : (a b : Lates) → sel (either a b) ≡ (sel a || sel b)
   pub fine : (moment : ℕ) (v : View) (listener : Option ℕ) (o : Owed) → sel (lates_of slack moment v listener o) ≡ false → Is v ≡ false → Inv o
@@ -61,10 +61,10 @@ pub record Wait (Inv : Owed → Type 0) (Kind : Event → (before after : View) 
 -- a duty that an endpoint has since a moment: `get`. It has this much time, and this kind of event ends it, or CLOSED
 pub record Duty (get : Owed → Option ℕ) (extra : ℕ) (Kind : Event → (before after : View) → Type 0) (sel : Lates → Bool) : Type 0 where
   pub nothing : get owed.nothing ≡ None
-  pub onward : (event : Event) (before after : View) (moment : ℕ) (listener : Option ℕ) (strict counts : Bool) (o : Owed) (since : ℕ) → get o ≡ Some since
-      → Kind event before after ⊎ (is_closed after.state ≡ true) ⊎ (get (owed_after event before after moment listener strict counts o) ≡ Some since)
-  pub back : (event : Event) (before after : View) (moment : ℕ) (listener : Option ℕ) (strict counts : Bool) (o : Owed) (since : ℕ)
-      → get (owed_after event before after moment listener strict counts o) ≡ Some since → (since ≡ moment) ⊎ (get o ≡ Some since)
+  pub onward : (event : Event) (before after : View) (moment : ℕ) (listener : Option ℕ) (counts : Bool) (o : Owed) (since : ℕ) → get o ≡ Some since
+      → Kind event before after ⊎ (is_closed after.state ≡ true) ⊎ (get (owed_after event before after moment listener counts o) ≡ Some since)
+  pub back : (event : Event) (before after : View) (moment : ℕ) (listener : Option ℕ) (counts : Bool) (o : Owed) (since : ℕ)
+      → get (owed_after event before after moment listener counts o) ≡ Some since → (since ≡ moment) ⊎ (get o ≡ Some since)
   pub rules : (l : Lates) → AllByRecursion (λ r. r.1 ≡ false) (late_rules l) → sel l ≡ false
   pub either : (a b : Lates) → sel (either a b) ≡ (sel a || sel b)
   pub fine : (slack moment : ℕ) (v : View) (listener : Option ℕ) (o : Owed) (since : ℕ) → sel (lates_of slack moment v listener o) ≡ false
@@ -74,7 +74,7 @@ pub record Duty (get : Owed → Option ℕ) (extra : ℕ) (Kind : Event → (bef
 pub wait_of : {get : Owed → Option ℕ} {extra : ℕ} {Kind : Event → (before after : View) → Type 0} {sel : Lates → Bool} → Duty get extra Kind sel
     → (slack since by : ℕ) → since + extra + slack ≤ by → Wait (λ o. get o ≡ Some since) Kind (λ v. is_closed v.state) sel slack by
 wait_of duty slack since by low = record {
-  onward = λ event before after moment listener strict counts o open' is. duty.onward event before after moment listener strict counts o since is;
+  onward = λ event before after moment listener counts o open' is. duty.onward event before after moment listener counts o since is;
   rules = duty.rules;
   either = duty.either;
   fine = λ moment v listener o none open' is. let at = duty.fine slack moment v listener o since none open' is in omega (arith, at, low);
@@ -192,8 +192,8 @@ module _ (t : Trace) (w : Witness) (slack : ℕ) (r : Run t.header slack (length
         next j x is goes all since now (inr same) = began_before t w j since (all since (sym (ap get same.0) ∙ now))
         next j x is goes all since now (inl at) =
             let owes = owes_of t w slack r j x me at.event is at.shows in
-            by (duty.back at.event (seen (known_before t w j).model me) (seen (known_before t w (suc j)).model me) x.moment
-            owes.listener owes.strict owes.counts (owed_by (known_before t w j).duties me.host me.number) since (sym (ap get owes.after) ∙ now))
+            by (duty.back at.event (seen (known_before t w j).model me) (seen (known_before t w (suc j)).model me) x.moment owes.listener owes.counts
+            (owed_by (known_before t w j).duties me.host me.number) since (sym (ap get owes.after) ∙ now))
           where
             by : (since ≡ x.moment) ⊎ (since_at (known_before t w j) ≡ Some since) → Began t w (suc j) since
             by (inl here) = began_now t w j x is since here
@@ -268,7 +268,7 @@ module _ (t : Trace) (w : Witness) (slack : ℕ) (r : Run t.header slack (length
             → ⊥))
             → Goes_on (known_before t w (suc j))
         by_step (inr same) = stays (subst Inv (sym same.0) still.owes) (λ event shows. absurd (same.1 event shows))
-        by_step (inl touch) = ends (wait.onward touch.event before after' y.moment owes.listener owes.strict owes.counts
+        by_step (inl touch) = ends (wait.onward touch.event before after' y.moment owes.listener owes.counts
             (owed_by (known_before t w j).duties me.host me.number) still.open' still.owes)
           where
             before : View
@@ -288,8 +288,7 @@ module _ (t : Trace) (w : Witness) (slack : ℕ) (r : Run t.header slack (length
                 still.owes
 
             ends : Kind touch.event before after' ⊎ (Is after' ≡ true)
-                ⊎ Inv (owed_after touch.event before after' y.moment owes.listener owes.strict owes.counts
-                (owed_by (known_before t w j).duties me.host me.number))
+                ⊎ Inv (owed_after touch.event before after' y.moment owes.listener owes.counts (owed_by (known_before t w j).duties me.host me.number))
                 → Goes_on (known_before t w (suc j))
             ends (inl kind) = inl (record {
               later = j;

@@ -45,14 +45,13 @@ use Rattle.kept_duties.proofs.Since.{Duty, becomes, from_step, not_after, wait_o
 use Rattle.kept_duties.proofs.Touched.{Owes, seen}
 
 -- all that is owed after a step, unless the endpoint is CLOSED then
-pub open_or_closed : (P : Owed → Type 0) (event : Event) (before after : View) (moment : ℕ) (listener : Option ℕ) (strict counts : Bool) (o : Owed)
-    → (is_closed after.state ≡ true → P (once_closed (owed_open event before after moment listener strict counts o)))
-    → P (owed_open event before after moment listener strict counts o) → P (owed_after event before after moment listener strict counts o)
-open_or_closed P event before after moment listener strict counts o closed open' = by (is_closed after.state) refl
+pub open_or_closed : (P : Owed → Type 0) (event : Event) (before after : View) (moment : ℕ) (listener : Option ℕ) (counts : Bool) (o : Owed)
+    → (is_closed after.state ≡ true → P (once_closed (owed_open event before after moment listener counts o)))
+    → P (owed_open event before after moment listener counts o) → P (owed_after event before after moment listener counts o)
+open_or_closed P event before after moment listener counts o closed open' = by (is_closed after.state) refl
   where
     by : (c : Bool) → is_closed after.state ≡ c
-        → P (if c then once_closed (owed_open event before after moment listener strict counts o)
-        else owed_open event before after moment listener strict counts o)
+        → P (if c then once_closed (owed_open event before after moment listener counts o) else owed_open event before after moment listener counts o)
     by true is = closed is
     by false is = open'
 
@@ -141,12 +140,11 @@ idle_is v idle =
 
 -- ---- acknowledge
 
-acknowledge_onward : (event : Event) (before after : View) (moment : ℕ) (listener : Option ℕ) (strict counts : Bool) (o : Owed) (since : ℕ) → o.acknowledge
+acknowledge_onward : (event : Event) (before after : View) (moment : ℕ) (listener : Option ℕ) (counts : Bool) (o : Owed) (since : ℕ) → o.acknowledge
     ≡ Some since
-    → Answers event before after ⊎ (is_closed after.state ≡ true) ⊎ ((owed_after event before after moment listener strict counts o).acknowledge ≡ Some since)
-acknowledge_onward event before after moment listener strict counts o since is =
-    open_or_closed (λ n. Answers event before after ⊎ (is_closed after.state ≡ true)
-        ⊎ (n.acknowledge ≡ Some since)) event before after moment listener strict counts o
+    → Answers event before after ⊎ (is_closed after.state ≡ true) ⊎ ((owed_after event before after moment listener counts o).acknowledge ≡ Some since)
+acknowledge_onward event before after moment listener counts o since is =
+    open_or_closed (λ n. Answers event before after ⊎ (is_closed after.state ≡ true) ⊎ (n.acknowledge ≡ Some since)) event before after moment listener counts o
     (λ closed. inr (inl closed)) (by (is_answer event) refl)
   where
     asks : (b : Bool) → (if b then option_or o.acknowledge (Some moment) else o.acknowledge) ≡ Some since
@@ -164,10 +162,10 @@ or_now : (o : Option ℕ) (moment since : ℕ) → option_or o (Some moment) ≡
 or_now None moment since is = inl (sym (same_Some moment since is))
 or_now (Some q) moment since is = inr is
 
-acknowledge_back : (event : Event) (before after : View) (moment : ℕ) (listener : Option ℕ) (strict counts : Bool) (o : Owed) (since : ℕ)
-    → (owed_after event before after moment listener strict counts o).acknowledge ≡ Some since → (since ≡ moment) ⊎ (o.acknowledge ≡ Some since)
-acknowledge_back event before after moment listener strict counts o since =
-    open_or_closed (λ n. n.acknowledge ≡ Some since → (since ≡ moment) ⊎ (o.acknowledge ≡ Some since)) event before after moment listener strict counts o
+acknowledge_back : (event : Event) (before after : View) (moment : ℕ) (listener : Option ℕ) (counts : Bool) (o : Owed) (since : ℕ)
+    → (owed_after event before after moment listener counts o).acknowledge ≡ Some since → (since ≡ moment) ⊎ (o.acknowledge ≡ Some since)
+acknowledge_back event before after moment listener counts o since =
+    open_or_closed (λ n. n.acknowledge ≡ Some since → (since ≡ moment) ⊎ (o.acknowledge ≡ Some since)) event before after moment listener counts o
     (λ closed none. absurd (none-some since none)) (by (is_answer event) (asks_ack event before.state moment o.acknowledged))
   where
     by : (a b : Bool) → (if a then None else if b then option_or o.acknowledge (Some moment) else o.acknowledge) ≡ Some since
@@ -196,14 +194,12 @@ acknowledge_duty = record {
 }
 
 -- what is received is to be acknowledged
-acknowledge_begins : (length : ℕ) (before after : View) (moment : ℕ) (listener : Option ℕ) (strict counts : Bool) (o : Owed) → 0 < length
-    → receives before.state
+acknowledge_begins : (length : ℕ) (before after : View) (moment : ℕ) (listener : Option ℕ) (counts : Bool) (o : Owed) → 0 < length → receives before.state
     ≡ true
-    → (is_closed after.state ≡ true) ⊎ ((since : ℕ)
-    × ((owed_after (Processes length false) before after moment listener strict counts o).acknowledge ≡ Some since))
-acknowledge_begins length before after moment listener strict counts o some receives' =
+    → (is_closed after.state ≡ true) ⊎ ((since : ℕ) × ((owed_after (Processes length false) before after moment listener counts o).acknowledge ≡ Some since))
+acknowledge_begins length before after moment listener counts o some receives' =
     open_or_closed (λ n. (is_closed after.state ≡ true) ⊎ ((since : ℕ) × (n.acknowledge ≡ Some since)))
-    (Processes length false) before after moment listener strict counts o
+    (Processes length false) before after moment listener counts o
     (λ closed. inl closed) (inr (kept o.acknowledge))
   where
     asks : (receives before.state && nat_lt 0 length && not false) ≡ true
@@ -221,13 +217,11 @@ since_now (Some m) moment = (m, refl)
 
 -- ---- retransmit
 
-retransmit_onward : (event : Event) (before after : View) (moment : ℕ) (listener : Option ℕ) (strict counts : Bool) (o : Owed) (since : ℕ)
-    → o.retransmit ≡ Some since
-    → SendsOldest event before after ⊎ (is_closed after.state ≡ true)
-    ⊎ ((owed_after event before after moment listener strict counts o).retransmit ≡ Some since)
-retransmit_onward event before after moment listener strict counts o since is =
+retransmit_onward : (event : Event) (before after : View) (moment : ℕ) (listener : Option ℕ) (counts : Bool) (o : Owed) (since : ℕ) → o.retransmit ≡ Some since
+    → SendsOldest event before after ⊎ (is_closed after.state ≡ true) ⊎ ((owed_after event before after moment listener counts o).retransmit ≡ Some since)
+retransmit_onward event before after moment listener counts o since is =
     open_or_closed (λ n. SendsOldest event before after ⊎ (is_closed after.state ≡ true)
-    ⊎ (n.retransmit ≡ Some since)) event before after moment listener strict counts o
+    ⊎ (n.retransmit ≡ Some since)) event before after moment listener counts o
     (λ closed. inr (inl closed)) (by (is_timeout event) (sends_oldest event before || acknowledges_more before after) refl)
   where
     by : (a b : Bool) → (sends_oldest event before || acknowledges_more before after) ≡ b
@@ -237,10 +231,10 @@ retransmit_onward event before after moment listener strict counts o since is =
     by false true sends = inl (sends_oldest_from event before after sends)
     by false false sends = inr (inr is)
 
-retransmit_back : (event : Event) (before after : View) (moment : ℕ) (listener : Option ℕ) (strict counts : Bool) (o : Owed) (since : ℕ)
-    → (owed_after event before after moment listener strict counts o).retransmit ≡ Some since → (since ≡ moment) ⊎ (o.retransmit ≡ Some since)
-retransmit_back event before after moment listener strict counts o since =
-    open_or_closed (λ n. n.retransmit ≡ Some since → (since ≡ moment) ⊎ (o.retransmit ≡ Some since)) event before after moment listener strict counts o
+retransmit_back : (event : Event) (before after : View) (moment : ℕ) (listener : Option ℕ) (counts : Bool) (o : Owed) (since : ℕ)
+    → (owed_after event before after moment listener counts o).retransmit ≡ Some since → (since ≡ moment) ⊎ (o.retransmit ≡ Some since)
+retransmit_back event before after moment listener counts o since =
+    open_or_closed (λ n. n.retransmit ≡ Some since → (since ≡ moment) ⊎ (o.retransmit ≡ Some since)) event before after moment listener counts o
     (λ closed none. absurd (none-some since none)) (by (is_timeout event) (sends_oldest event before || acknowledges_more before after))
   where
     by : (a b : Bool) → (if a then option_or o.retransmit (Some moment) else if b then None else o.retransmit) ≡ Some since
@@ -263,20 +257,18 @@ retransmit_duty = record {
       omega (arith, le);
 }
 
-retransmit_begins : (before after : View) (moment : ℕ) (listener : Option ℕ) (strict counts : Bool) (o : Owed)
-    → (is_closed after.state ≡ true) ⊎ ((since : ℕ) × ((owed_after (Expires Rto) before after moment listener strict counts o).retransmit ≡ Some since))
-retransmit_begins before after moment listener strict counts o =
-    open_or_closed (λ n. (is_closed after.state ≡ true) ⊎ ((since : ℕ)
-        × (n.retransmit ≡ Some since))) (Expires Rto) before after moment listener strict counts o
+retransmit_begins : (before after : View) (moment : ℕ) (listener : Option ℕ) (counts : Bool) (o : Owed)
+    → (is_closed after.state ≡ true) ⊎ ((since : ℕ) × ((owed_after (Expires Rto) before after moment listener counts o).retransmit ≡ Some since))
+retransmit_begins before after moment listener counts o =
+    open_or_closed (λ n. (is_closed after.state ≡ true) ⊎ ((since : ℕ) × (n.retransmit ≡ Some since))) (Expires Rto) before after moment listener counts o
     (λ closed. inl closed) (inr (since_now o.retransmit moment))
 
 -- ---- probe
 
-probe_onward : (event : Event) (before after : View) (moment : ℕ) (listener : Option ℕ) (strict counts : Bool) (o : Owed) (since : ℕ) → o.probe ≡ Some since
-    → SendsAnything event before after ⊎ (is_closed after.state ≡ true) ⊎ ((owed_after event before after moment listener strict counts o).probe ≡ Some since)
-probe_onward event before after moment listener strict counts o since is =
-    open_or_closed (λ n. SendsAnything event before after ⊎ (is_closed after.state ≡ true)
-        ⊎ (n.probe ≡ Some since)) event before after moment listener strict counts o
+probe_onward : (event : Event) (before after : View) (moment : ℕ) (listener : Option ℕ) (counts : Bool) (o : Owed) (since : ℕ) → o.probe ≡ Some since
+    → SendsAnything event before after ⊎ (is_closed after.state ≡ true) ⊎ ((owed_after event before after moment listener counts o).probe ≡ Some since)
+probe_onward event before after moment listener counts o since is =
+    open_or_closed (λ n. SendsAnything event before after ⊎ (is_closed after.state ≡ true) ⊎ (n.probe ≡ Some since)) event before after moment listener counts o
     (λ closed. inr (inl closed)) (by (is_probe_timeout event) (is_sending event || acknowledges_more before after) refl)
   where
     by : (a b : Bool) → (is_sending event || acknowledges_more before after) ≡ b
@@ -286,10 +278,10 @@ probe_onward event before after moment listener strict counts o since is =
     by false true sends = inl (sends_anything_from event before after sends)
     by false false sends = inr (inr is)
 
-probe_back : (event : Event) (before after : View) (moment : ℕ) (listener : Option ℕ) (strict counts : Bool) (o : Owed) (since : ℕ)
-    → (owed_after event before after moment listener strict counts o).probe ≡ Some since → (since ≡ moment) ⊎ (o.probe ≡ Some since)
-probe_back event before after moment listener strict counts o since =
-    open_or_closed (λ n. n.probe ≡ Some since → (since ≡ moment) ⊎ (o.probe ≡ Some since)) event before after moment listener strict counts o
+probe_back : (event : Event) (before after : View) (moment : ℕ) (listener : Option ℕ) (counts : Bool) (o : Owed) (since : ℕ)
+    → (owed_after event before after moment listener counts o).probe ≡ Some since → (since ≡ moment) ⊎ (o.probe ≡ Some since)
+probe_back event before after moment listener counts o since =
+    open_or_closed (λ n. n.probe ≡ Some since → (since ≡ moment) ⊎ (o.probe ≡ Some since)) event before after moment listener counts o
     (λ closed none. absurd (none-some since none)) (by (is_probe_timeout event) (is_sending event || acknowledges_more before after))
   where
     by : (a b : Bool) → (if a then option_or o.probe (Some moment) else if b then None else o.probe) ≡ Some since
@@ -312,19 +304,18 @@ probe_duty = record {
       omega (arith, le);
 }
 
-probe_begins : (before after : View) (moment : ℕ) (listener : Option ℕ) (strict counts : Bool) (o : Owed)
-    → (is_closed after.state ≡ true) ⊎ ((since : ℕ) × ((owed_after (Expires Persist) before after moment listener strict counts o).probe ≡ Some since))
-probe_begins before after moment listener strict counts o =
-    open_or_closed (λ n. (is_closed after.state ≡ true) ⊎ ((since : ℕ) × (n.probe ≡ Some since))) (Expires Persist) before after moment listener strict counts o
+probe_begins : (before after : View) (moment : ℕ) (listener : Option ℕ) (counts : Bool) (o : Owed)
+    → (is_closed after.state ≡ true) ⊎ ((since : ℕ) × ((owed_after (Expires Persist) before after moment listener counts o).probe ≡ Some since))
+probe_begins before after moment listener counts o =
+    open_or_closed (λ n. (is_closed after.state ≡ true) ⊎ ((since : ℕ) × (n.probe ≡ Some since))) (Expires Persist) before after moment listener counts o
     (λ closed. inl closed) (inr (since_now o.probe moment))
 
 -- ---- start
 
-start_onward : (event : Event) (before after : View) (moment : ℕ) (listener : Option ℕ) (strict counts : Bool) (o : Owed) (since : ℕ) → o.start ≡ Some since
-    → IsNotIdle event before after ⊎ (is_closed after.state ≡ true) ⊎ ((owed_after event before after moment listener strict counts o).start ≡ Some since)
-start_onward event before after moment listener strict counts o since is =
-    open_or_closed (λ n. IsNotIdle event before after ⊎ (is_closed after.state ≡ true)
-        ⊎ (n.start ≡ Some since)) event before after moment listener strict counts o
+start_onward : (event : Event) (before after : View) (moment : ℕ) (listener : Option ℕ) (counts : Bool) (o : Owed) (since : ℕ) → o.start ≡ Some since
+    → IsNotIdle event before after ⊎ (is_closed after.state ≡ true) ⊎ ((owed_after event before after moment listener counts o).start ≡ Some since)
+start_onward event before after moment listener counts o since is =
+    open_or_closed (λ n. IsNotIdle event before after ⊎ (is_closed after.state ≡ true) ⊎ (n.start ≡ Some since)) event before after moment listener counts o
     (λ closed. inr (inl closed)) (by (is_idle_with_work after) refl)
   where
     by : (b : Bool) → is_idle_with_work after ≡ b
@@ -332,10 +323,10 @@ start_onward event before after moment listener strict counts o since is =
     by true idle = inr (inr (ap (λ (q : Option ℕ). option_or q (Some moment)) is))
     by false busy = inl (λ idle. true_false (idle_is after idle) busy)
 
-start_back : (event : Event) (before after : View) (moment : ℕ) (listener : Option ℕ) (strict counts : Bool) (o : Owed) (since : ℕ)
-    → (owed_after event before after moment listener strict counts o).start ≡ Some since → (since ≡ moment) ⊎ (o.start ≡ Some since)
-start_back event before after moment listener strict counts o since =
-    open_or_closed (λ n. n.start ≡ Some since → (since ≡ moment) ⊎ (o.start ≡ Some since)) event before after moment listener strict counts o
+start_back : (event : Event) (before after : View) (moment : ℕ) (listener : Option ℕ) (counts : Bool) (o : Owed) (since : ℕ)
+    → (owed_after event before after moment listener counts o).start ≡ Some since → (since ≡ moment) ⊎ (o.start ≡ Some since)
+start_back event before after moment listener counts o since =
+    open_or_closed (λ n. n.start ≡ Some since → (since ≡ moment) ⊎ (o.start ≡ Some since)) event before after moment listener counts o
     (λ closed none. absurd (none-some since none)) (by (is_idle_with_work after))
   where
     by : (b : Bool) → (if b then option_or o.start (Some moment) else None) ≡ Some since → (since ≡ moment) ⊎ (o.start ≡ Some since)
@@ -354,10 +345,10 @@ start_duty = record {
       (late_open (λ l. l.start ≡ false) slack moment v listener o open' none);
 }
 
-start_begins : (event : Event) (before after : View) (moment : ℕ) (listener : Option ℕ) (strict counts : Bool) (o : Owed) → is_idle_with_work after ≡ true
-    → (is_closed after.state ≡ true) ⊎ ((since : ℕ) × ((owed_after event before after moment listener strict counts o).start ≡ Some since))
-start_begins event before after moment listener strict counts o idle =
-    open_or_closed (λ n. (is_closed after.state ≡ true) ⊎ ((since : ℕ) × (n.start ≡ Some since))) event before after moment listener strict counts o
+start_begins : (event : Event) (before after : View) (moment : ℕ) (listener : Option ℕ) (counts : Bool) (o : Owed) → is_idle_with_work after ≡ true
+    → (is_closed after.state ≡ true) ⊎ ((since : ℕ) × ((owed_after event before after moment listener counts o).start ≡ Some since))
+start_begins event before after moment listener counts o idle =
+    open_or_closed (λ n. (is_closed after.state ≡ true) ⊎ ((since : ℕ) × (n.start ≡ Some since))) event before after moment listener counts o
     (λ closed. inl closed)
     (inr (subst (λ (b : Bool). (since : ℕ) × ((if b then option_or o.start (Some moment) else None) ≡ Some since)) (sym idle) (since_now o.start moment)))
 
@@ -370,13 +361,13 @@ module _ (t : Trace) (w : Witness) (slack : ℕ) (r : Run t.header slack (length
   pub arises : (me : EndpointId) (get : Owed → Option ℕ) (extra : ℕ) (Kind : Event → (before after : View) → Type 0) (sel : Lates → Bool)
       (duty : Duty get extra Kind sel) → IsSame sel t.header slack
       → (place moment : ℕ) (event : Event) → Happens t w place moment me event
-      → ((before after : View) (now : ℕ) (listener : Option ℕ) (strict counts : Bool) (o : Owed) → before ≡ seen_before t w place me
+      → ((before after : View) (now : ℕ) (listener : Option ℕ) (counts : Bool) (o : Owed) → before ≡ seen_before t w place me
       → after ≡ seen_before t w (suc place) me → now ≡ moment → o ≡ owed_by (known_before t w place).duties me.host me.number
-      → (is_closed after.state ≡ true) ⊎ ((since : ℕ) × (get (owed_after event before after now listener strict counts o) ≡ Some since)))
+      → (is_closed after.state ≡ true) ⊎ ((since : ℕ) × (get (owed_after event before after now listener counts o) ≡ Some since)))
       → IsDoneBy t w place (moment + extra + slack) me Kind
   arises me get extra Kind sel duty same place moment event a begins =
       subst (λ (m : ℕ). IsDoneBy t w place (m + extra + slack) me Kind) a.time
-      (by (begins (seen (known_before t w place).model me) (seen (known_before t w (suc place)).model me) a.act.moment owes.listener owes.strict owes.counts
+      (by (begins (seen (known_before t w place).model me) (seen (known_before t w (suc place)).model me) a.act.moment owes.listener owes.counts
       (owed_by (known_before t w place).duties me.host me.number) (ap (λ (v : World tcp_shape). seen v me) (world_is t w place))
       (ap (λ (v : World tcp_shape). seen v me) (world_is t w (suc place))) a.time refl))
     where
@@ -399,7 +390,7 @@ module _ (t : Trace) (w : Witness) (slack : ℕ) (r : Run t.header slack (length
 
       by : (is_closed (seen (known_before t w (suc place)).model me).state ≡ true)
           ⊎ ((since : ℕ) × (get (owed_after event (seen (known_before t w place).model me)
-          (seen (known_before t w (suc place)).model me) a.act.moment owes.listener owes.strict owes.counts
+          (seen (known_before t w (suc place)).model me) a.act.moment owes.listener owes.counts
           (owed_by (known_before t w place).duties me.host me.number)) ≡ Some since))
           → IsDoneBy t w place (a.act.moment + extra + slack) me Kind
       by (inl closed) = at_once closed
@@ -410,7 +401,7 @@ module _ (t : Trace) (w : Witness) (slack : ℕ) (r : Run t.header slack (length
   receipts_answered plain place moment length me a some receives' =
       arises me (λ o. o.acknowledge) longest_delay Answers (λ l. l.acknowledge) acknowledge_duty
       (plain_same (λ l. l.acknowledge) t.header slack plain) place moment (Processes length false) a
-      (λ before after moment listener strict counts o is now at old. acknowledge_begins length before after moment listener strict counts o some
+      (λ before after moment listener counts o is now at old. acknowledge_begins length before after moment listener counts o some
       (ap (λ (v : View). receives v.state) is ∙ receives_in (seen_before t w place me).state receives'))
 
   -- an expiry is followed by a retransmission
@@ -419,7 +410,7 @@ module _ (t : Trace) (w : Witness) (slack : ℕ) (r : Run t.header slack (length
       subst (λ (m : ℕ). IsDoneBy t w place m me SendsOldest) (let e : moment + 0 + slack ≡ moment + slack = omega arith in e)
       (arises me (λ o. o.retransmit) 0 SendsOldest (λ l. l.retransmit) retransmit_duty (plain_same (λ l. l.retransmit) t.header slack plain) place moment
       (Expires Rto) a
-      (λ before after moment listener strict counts o is now at old. retransmit_begins before after moment listener strict counts o))
+      (λ before after moment listener counts o is now at old. retransmit_begins before after moment listener counts o))
 
   -- and one of the persist timer by any segment
   pub probes_sent : says_sender t.header.version ≡ false → ProbesAreSent t w slack
@@ -427,11 +418,11 @@ module _ (t : Trace) (w : Witness) (slack : ℕ) (r : Run t.header slack (length
       subst (λ (m : ℕ). IsDoneBy t w place m me SendsAnything) (let e : moment + 0 + slack ≡ moment + slack = omega arith in e)
       (arises me (λ o. o.probe) 0 SendsAnything (λ l. l.retransmit) probe_duty (plain_same (λ l. l.retransmit) t.header slack plain) place moment
       (Expires Persist) a
-      (λ before after moment listener strict counts o is now at old. probe_begins before after moment listener strict counts o))
+      (λ before after moment listener counts o is now at old. probe_begins before after moment listener counts o))
 
   -- work is begun
   pub work_begun : WorkIsBegun t w slack
   work_begun place moment me event a idle =
       arises me (λ o. o.start) longest_wait IsNotIdle (λ l. l.start) start_duty (start_same t.header slack) place moment event a
-      (λ before after moment listener strict counts o is now at old. start_begins event before after moment listener strict counts o
+      (λ before after moment listener counts o is now at old. start_begins event before after moment listener counts o
       (ap is_idle_with_work now ∙ idle_is (seen_before t w (suc place) me) idle))

@@ -8,7 +8,6 @@ use Rattle.std.specs.Option.{option_map, option_map_or}
 use Rattle.std.proofs.lemmas.Bool.Decides.{nat_tests}
 use Rattle.std.proofs.lemmas.Option.{none-some, same_Some, slice_get_past}
 use Rattle.indexmap.specs.IndexMap.{insert_entry}
-use Rattle.case_forms.specs.Versions.{says_sender}
 use Rattle.case_forms.specs.declared.version.Version.{Version}
 use Rattle.case_forms.specs.declared.calls.Answer.{Answer}
 use Rattle.case_forms.specs.declared.calls.Answer.TheVariants as answers
@@ -335,19 +334,17 @@ pub record Touches (h : Header) (k : Known) (x : Stamped tcp_shape) (me : Endpoi
 
 -- so its duties were compared, and are changed
 pub record Owes (h : Header) (slack : ℕ) (k next : Known) (x : Stamped tcp_shape) (me : EndpointId) (event : Event) : Type 0 where
-  pub strict : Bool
   pub counts : Bool
   pub listener : Option ℕ
-  pub judges : strict ≡ says_sender h.version
   pub counted : counts ≡ counts_now (built_by k.duties (observe h x.moment k.model x.step).built_change)
   pub listens : listener ≡ listener_closed k.duties me.host (seen k.model me)
   pub brought : Option ℕ
   pub lates : AllByRecursion (λ r. r.1 ≡ false) (late_rules (judged_lates h slack x.moment k.duties brought me.host me.number (seen k.model me)))
-  pub resent : is_resent strict h.congestion event (seen k.model me) (owed_by k.duties me.host me.number).again ≡ false
+  pub resent : is_resent h.congestion event (seen k.model me) (owed_by k.duties me.host me.number).again ≡ false
   pub beyond : is_resent_beyond h.congestion event (seen k.model me) ≡ false
   pub excess : is_excess counts (owed_by k.duties me.host me.number).answers ≡ false
   pub after : owed_by next.duties me.host me.number
-      ≡ owed_after event (seen k.model me) (seen next.model me) x.moment listener strict counts (owed_by k.duties me.host me.number)
+      ≡ owed_after event (seen k.model me) (seen next.model me) x.moment listener counts (owed_by k.duties me.host me.number)
 
 -- what is judged alike by the plain and the stricter duties isn't late by the plain ones
 pub lates_plain : (sel : Lates → Bool) (h : Header) (slack : ℕ) (k next : Known) (x : Stamped tcp_shape) (me : EndpointId) (event : Event)
@@ -371,10 +368,8 @@ module _ (h : Header) (slack : ℕ) (k next : Known) (x : Stamped tcp_shape) (me
       (touched_rules h slack x.moment k.duties counts
       (sent_by k.duties shown.built_change) shown.sampling))) shows rules in
       record {
-        strict = says_sender h.version;
         counts = counts;
         listener = listener_closed k.duties me.host (seen k.model me);
-        judges = refl;
         counted = refl;
         listens = refl;
         brought = brought_by (sent_by k.duties shown.built_change);
@@ -386,11 +381,11 @@ module _ (h : Header) (slack : ℕ) (k next : Known) (x : Stamped tcp_shape) (me
             (sends_in_excess h slack k.duties (sent_by k.duties shown.built_change) (touched k.model me event)) here.1.1.1.1.1.1.1.1.0;
         after =
             ap (λ (d : Duties). owed_by d me.host me.number) goes.duties
-            ∙ ap (λ (o : Option TouchedEndpoint). owed_in (on o k.duties.owed (owed_table_after (says_sender h.version)
+            ∙ ap (λ (o : Option TouchedEndpoint). owed_in (on o k.duties.owed (owed_table_after
             (view_in (after (tcp h) x.moment k.model x.step) o) x.moment counts k.duties)) me) shows
             ∙ owed_here k.duties.owed k.model me event _
             ∙ ap (λ (w : World tcp_shape). owed_after event (seen k.model me) (seen w me) x.moment
-            (listener_closed k.duties me.host (seen k.model me)) (says_sender h.version) counts (owed_by k.duties me.host me.number)) (sym goes.model);
+            (listener_closed k.duties me.host (seen k.model me)) counts (owed_by k.duties me.host me.number)) (sym goes.model);
       }
     where
       counts : Bool

@@ -1,13 +1,12 @@
 -- What a yes with a slack says of data that is sent again: each position once for each expiry (RFC 6298, 5.4 and 5.5;
 -- RFC 5681, 3.2), and within the congestion window.
 use Rattle.std.specs.Prelude.{◌≡◌, ◌+◌, ◌<◌, ◌≤◌, ℕ, suc, min, nat_lt, Bool, true, false, ◌&&◌, is_some}
-use Rattle.case_forms.specs.Versions.{says_sender}
 use Rattle.case_forms.specs.declared.steps.SegmentPlan.{SegmentPlan}
 use Rattle.case_forms.specs.declared.steps.Witness.{Witness}
 use Rattle.case_forms.specs.declared.timer.Timer.TheVariants.{Persist, Rto}
 use Rattle.case_forms.specs.declared.trace.Trace.{Trace}
 use Rattle.spec_tcp.specs.declared.endpoint.EndpointId.{EndpointId}
-use Rattle.spec_tcp.specs.Makes.Payload.{is_fin_alone, making_length}
+use Rattle.spec_tcp.specs.Makes.Payload.{making_length}
 use Rattle.spec_duties.specs.declared.events.Event.{Event}
 use Rattle.spec_duties.specs.declared.events.Event.TheVariants.{Builds, Expires, Processes, Recovers}
 use Rattle.spec_duties.specs.declared.views.View.{View}
@@ -28,8 +27,7 @@ NothingBegins t w me from to =
     (place moment : ℕ) (event : Event) → from < place → place < to → Happens t w place moment me event
     → begins event (seen_before t w place me) (seen_before t w (suc place) me) ≡ false
 
--- a segment is built with positions that were built before; a SYN with ACK or a reset may be repeated at any time, and
--- in version 6 a FIN alone, too (RFC 9293, 3.10.4)
+-- a segment is built with positions that were built before; a SYN with ACK or a reset may be repeated at any time
 pub record BuildsAgain (t : Trace) (w : Witness) (place : ℕ) (me : EndpointId) (m : SegmentPlan) : Type 0 where
   pub moment : ℕ
   pub happens : Happens t w place moment me (Builds m)
@@ -37,7 +35,6 @@ pub record BuildsAgain (t : Trace) (w : Witness) (place : ℕ) (me : EndpointId)
   pub some : 0 < making_length m
   pub not_syn_ack : (m.flags.syn && m.flags.ack) ≡ false
   pub no_reset : m.flags.rst ≡ false
-  pub no_fin_alone : (says_sender t.header.version && is_fin_alone (seen_before t w place me).snd_max m) ≡ false
 
 -- the position after the last of these
 abbrev pub again_end : View → SegmentPlan → ℕ

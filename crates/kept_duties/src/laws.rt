@@ -55,7 +55,7 @@ pub fn events_are_steps()
 {}
 
 /// Between two expiries or the like, an endpoint built no position twice again, unless the header says
-/// `congestion none` (RFC 6298, 5.4 and 5.5; RFC 5681, 3.2); but for a FIN alone in version 6 (RFC 9293, 3.10.4).
+/// `congestion none` (RFC 6298, 5.4 and 5.5; RFC 5681, 3.2).
 pub fn nothing_is_resent_twice()
     ensures { (t : Trace) (w : Witness) (slack : ℕ) → Explains t w → t.header.slack ≡ Some slack
         → t.header.congestion ≢ NoControl → NothingIsResentTwice t w }

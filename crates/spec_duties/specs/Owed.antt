@@ -65,10 +65,10 @@ late_rules l =
     (rules.AckLate, l.acknowledge) ∷ (rules.ExpiryLate, l.expire) ∷ (rules.ResendLate, l.retransmit)
     ∷ (rules.ProbeLate, l.probe) ∷ (rules.StartLate, l.start) ∷ (rules.ResetLate, l.reset) ∷ []
 
--- what is owed after a step at an endpoint; `strict`: in version 6
-abbrev pub owed_open : Event → (before after : View) → (moment : ℕ) → (listener_closed : Option ℕ)
-    → (strict counts : Bool) → Owed → Owed
-owed_open event before after moment listener_closed strict counts o = record {
+-- what is owed after a step at an endpoint
+abbrev pub owed_open : Event → (before after : View) → (moment : ℕ) → (listener_closed : Option ℕ) → (counts : Bool)
+    → Owed → Owed
+owed_open event before after moment listener_closed counts o = record {
   acknowledge = acknowledge_after event before.state moment o.acknowledged o.acknowledge;
   opened = opened_after before after moment o.opened;
   retransmit = retransmit_after event before after moment o.retransmit;
@@ -76,7 +76,7 @@ owed_open event before after moment listener_closed strict counts o = record {
   probing = probing_after event before after moment o.probing;
   start = start_after after moment o.start;
   reset = reset_after event before after moment listener_closed o.reset;
-  again = again_after strict event before after o.again;
+  again = again_after event before after o.again;
   answers = answers_after event before counts o.answers;
   acknowledged = acknowledged_after event moment o.acknowledged;
 }
@@ -86,8 +86,8 @@ abbrev pub once_closed : Owed → Owed
 once_closed o =
     record o { acknowledge = None; retransmit = None; probe = None; probing = None; start = None }
 
-abbrev pub owed_after : Event → (before after : View) → (moment : ℕ) → (listener_closed : Option ℕ)
-    → (strict counts : Bool) → Owed → Owed
-owed_after event before after moment listener_closed strict counts o =
-    if is_closed after.state then once_closed (owed_open event before after moment listener_closed strict counts o)
-    else owed_open event before after moment listener_closed strict counts o
+abbrev pub owed_after : Event → (before after : View) → (moment : ℕ) → (listener_closed : Option ℕ) → (counts : Bool)
+    → Owed → Owed
+owed_after event before after moment listener_closed counts o =
+    if is_closed after.state then once_closed (owed_open event before after moment listener_closed counts o)
+    else owed_open event before after moment listener_closed counts o

@@ -7,7 +7,7 @@ use Rattle.case_forms.specs.States.{is_closed, is_time_wait}
 use Rattle.case_forms.specs.declared.calls.State.{State}
 use Rattle.case_forms.specs.declared.steps.SegmentPlan.{SegmentPlan}
 use Rattle.timer_rules.specs.Timeouts.{longest_rto}
-use Rattle.spec_tcp.specs.Makes.Payload.{is_fin_alone, making_length}
+use Rattle.spec_tcp.specs.Makes.Payload.{making_length}
 use Rattle.spec_duties.specs.Acknowledge.{acknowledge_due, answered_lately, asks_ack}
 use Rattle.spec_duties.specs.Credits.{kept_alive_after}
 use Rattle.spec_duties.specs.Deadlines.{is_late}
@@ -79,10 +79,14 @@ is_spared event before = false
 -- ---- expire: the timer's time begins anew when the oldest unacknowledged position is built again, as some stacks
 -- restart it at a fast retransmission
 
+-- a FIN without bytes that was sent before; it may be repeated at any time (RFC 9293, 3.10.4)
+abbrev pub is_fin_alone : SegmentPlan → View → Bool
+is_fin_alone m v = m.flags.fin && m.len == 0 && nat_lt m.pos v.snd_max
+
 abbrev pub rebuilds_oldest : Event → View → Bool
 rebuilds_oldest (Builds m) v =
     nat_lt v.snd_una v.snd_max && nat_le m.pos v.snd_una && nat_lt v.snd_una (m.pos + making_length m)
-    && not (is_fin_alone v.snd_max m)
+    && not (is_fin_alone m v)
 rebuilds_oldest event v = false
 
 -- the offered window opens

@@ -136,8 +136,8 @@ sends_in_excess h slack d sent t =
 -- the limits on repetition, and the measurement that is due; `lacks`: an acknowledgment is sent without a credit
 abbrev pub limit_rules : Header → TouchedEndpoint → (counts lacks due : Bool) → Owed → List (Rule × Bool)
 limit_rules h t counts lacks due o =
-    (rules.Resent, is_resent (says_sender h.version) h.congestion t.event t.before o.again)
-    ∷ (rules.ResentBeyond, is_resent_beyond h.congestion t.event t.before)
+    (rules.Resent, not (says_sender h.version) && is_resent h.congestion t.event t.before o.again)
+    ∷ (rules.ResentBeyond, not (says_sender h.version) && is_resent_beyond h.congestion t.event t.before)
     ∷ (rules.AckExcess, is_excess counts o.answers || lacks) ∷ (rules.SampleDue, due) ∷ []
 
 -- which duties of an endpoint are late: in version 6, by the stricter ones
@@ -170,14 +170,13 @@ duty_rules h slack moment d s =
     ∷ on s.touched (answer_rules slack moment d s.call_change)
     (touched_rules h slack moment d (counts_now (built_by d s.built_change)) (sent_by d s.built_change) s.sampling)
 
--- what is owed after a step at an endpoint, which is then seen like this; `strict`: in version 6
-abbrev pub owed_table_after : (strict : Bool) → (after : View) → (moment : ℕ) → (counts : Bool) → Duties
-    → TouchedEndpoint → Both (List (ℕ × Owed))
-owed_table_after strict after moment counts d t =
+-- what is owed after a step at an endpoint, which is then seen like this
+abbrev pub owed_table_after : (after : View) → (moment : ℕ) → (counts : Bool) → Duties → TouchedEndpoint
+    → Both (List (ℕ × Owed))
+owed_table_after after moment counts d t =
     with_host d.owed t.host
     (insert_entry nat_eq (pick d.owed t.host) t.place
-    (owed_after t.event t.before after moment (listener_closed d t.host t.before) strict counts
-    (owed_by d t.host t.place)))
+    (owed_after t.event t.before after moment (listener_closed d t.host t.before) counts (owed_by d t.host t.place)))
 
 -- the listener for which an endpoint counts: until it is accepted or CLOSED
 abbrev pub counts_for : View → Option ℕ
@@ -285,7 +284,7 @@ credits_after slack moment d sent earns t =
 -- wait are left as they are
 abbrev pub duties_after : (strict : Bool) → (slack : ℕ) → (after : View) → (moment : ℕ) → Observation → Duties → Duties
 duties_after strict slack after moment s d = record {
-  owed = on s.touched d.owed (owed_table_after strict after moment (counts_now (built_by d s.built_change)) d);
+  owed = on s.touched d.owed (owed_table_after after moment (counts_now (built_by d s.built_change)) d);
   listening = listening_after after moment s d.listening;
   inbox = inbox_after moment s.inbox_change d.inbox;
   built = built_after after moment s.touched s.built_change d.built;

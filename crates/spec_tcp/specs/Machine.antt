@@ -58,7 +58,7 @@ act_rules h me moment b (Takes how m) = taker_rules h me b how m moment (taker b
 act_rules h me moment b (Resets m) = reset_rules b m
 act_rules h me moment b (Expires x) = rules_at b x.lport x.rport (λ e. expiry_rules h moment e x.expired)
 act_rules h me moment b (Recovers x) =
-    rules_at b x.lport x.rport (λ e. recovery_rules e x.change x.cwnd x.ssthresh moment)
+    rules_at b x.lport x.rport (λ e. recovery_rules h.version e x.change x.cwnd x.ssthresh moment)
 
 -- the host after it
 abbrev pub act_after : Header → Host → ℕ → HostTcp → Act → HostTcp

@@ -1,8 +1,10 @@
 -- Fast recovery begins (RFC 5681, 3.2), or is undone (RFC 4015, 3.2).
 use Rattle.std.specs.Prelude.{ℕ, ◌==◌, nat_lt, Bool, true, false, not, ◌||◌, min, List, [], ◌∷◌}
 use Rattle.case_forms.specs.States.{is_closed}
+use Rattle.case_forms.specs.Versions.{says_sender}
 use Rattle.case_forms.specs.declared.timer.RecoveryChange.{RecoveryChange}
 use Rattle.case_forms.specs.declared.timer.RecoveryChange.TheVariants.{Begins, IsUndone}
+use Rattle.case_forms.specs.declared.version.Version.{Version}
 use Rattle.verdict.specs.declared.rule.Rule.{Rule}
 use Rattle.verdict.specs.declared.rule.Rule.TheVariants as rules
 use Rattle.window_rules.specs.Control.{greatest, after, may_recover}
@@ -17,10 +19,10 @@ greatest_at_recovery e moment =
     ((greatest e.control (recovery_signal e ssthresh) (at_moment e moment)).0, ssthresh)
 
 -- fast recovery before the third duplicate acknowledgment, with nothing outstanding, or with a greater ssthresh or cwnd
--- than is permitted (RFC 5681, 3.2, steps 2 and 3)
-abbrev pub is_bad_recovery : Endpoint → (cwnd ssthresh moment : ℕ) → Bool
-is_bad_recovery e cwnd ssthresh moment =
-    not (may_recover e.control) || e.stream.snd_una == snd_max e
+-- than is permitted (RFC 5681, 3.2, steps 2 and 3); from version 6 on, the model doesn't ask for duplicates
+abbrev pub is_bad_recovery : Version → Endpoint → (cwnd ssthresh moment : ℕ) → Bool
+is_bad_recovery v e cwnd ssthresh moment =
+    not (says_sender v || may_recover e.control) || e.stream.snd_una == snd_max e
     || nat_lt ((greatest e.control (recovery_signal e ssthresh) (at_moment e moment)).1) ssthresh
     || nat_lt ((greatest e.control (recovery_signal e ssthresh) (at_moment e moment)).0) cwnd
 
@@ -29,10 +31,10 @@ abbrev pub is_undone : RecoveryChange → Bool
 is_undone Begins = false
 is_undone IsUndone = true
 
-abbrev pub recovery_rules : Endpoint → RecoveryChange → (cwnd ssthresh moment : ℕ) → List (Rule × Bool)
-recovery_rules e change cwnd ssthresh moment =
+abbrev pub recovery_rules : Version → Endpoint → RecoveryChange → (cwnd ssthresh moment : ℕ) → List (Rule × Bool)
+recovery_rules v e change cwnd ssthresh moment =
     (rules.NoEndpoint, is_closed e.state) ∷ (rules.State, not (is_up e))
-    ∷ (rules.Recovery, is_undone change || is_bad_recovery e cwnd ssthresh moment) ∷ []
+    ∷ (rules.Recovery, is_undone change || is_bad_recovery v e cwnd ssthresh moment) ∷ []
 
 abbrev pub after_recovery : Endpoint → (cwnd ssthresh moment : ℕ) → Endpoint
 after_recovery e cwnd ssthresh moment = record e {

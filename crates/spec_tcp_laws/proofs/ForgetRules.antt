@@ -82,6 +82,6 @@ expiry_rules-forget h moment e Msl2 = refl
 expiry_rules-forget h moment e Giveup = rw (snd_max-forget e) refl
 expiry_rules-forget h moment e Pto = refl
 
-pub recovery_rules-forget : (e : Endpoint) (change : RecoveryChange) (cwnd ssthresh moment : ℕ)
-    → recovery_rules (forget_endpoint e) change cwnd ssthresh moment ≡ recovery_rules e change cwnd ssthresh moment
-recovery_rules-forget e change cwnd ssthresh moment = rw (rcv_nxt-forget e, snd_max-forget e) refl
+pub recovery_rules-forget : (v : Version) (e : Endpoint) (change : RecoveryChange) (cwnd ssthresh moment : ℕ)
+    → recovery_rules v (forget_endpoint e) change cwnd ssthresh moment ≡ recovery_rules v e change cwnd ssthresh moment
+recovery_rules-forget v e change cwnd ssthresh moment = rw (rcv_nxt-forget e, snd_max-forget e) refl

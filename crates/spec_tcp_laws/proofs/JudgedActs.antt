@@ -124,8 +124,8 @@ act_passes p j h me moment b (Expires x) may passed =
     rules_pass p b x.lport x.rport (λ e. expiry_rules h moment e x.expired)
     (λ e. expiry_rules (header_by j h) moment e x.expired) may (λ e. expiry_passes p j h moment e x.expired) passed
 act_passes p j h me moment b (Recovers x) may passed =
-    rules_pass p b x.lport x.rport (λ e. recovery_rules e x.change x.cwnd x.ssthresh moment)
-    (λ e. recovery_rules e x.change x.cwnd x.ssthresh moment) may (λ e. recovery_passes p e x.change x.cwnd x.ssthresh moment) passed
+    rules_pass p b x.lport x.rport (λ e. recovery_rules h.version e x.change x.cwnd x.ssthresh moment)
+    (λ e. recovery_rules h.version e x.change x.cwnd x.ssthresh moment) may (λ e. recovery_passes h.version p e x.change x.cwnd x.ssthresh moment) passed
 
 -- what the host has then; an endpoint that begins has the profile of the header
 taking_kept : (j : Judged) (h : Header) (b : HostTcp) (how : TakeChoice) (m : Emission) (moment : ℕ) (t : Taker)

@@ -3,6 +3,7 @@ use Rattle.std.proofs.Common.{◌≡◌, ℕ, ◌+◌, ◌≤◌, Bool, true, fa
 use Rattle.std.specs.Prelude.{nat_lt, ◌&&◌, ◌||◌, ◌==◌, not}
 use Rattle.std.specs.List.{AllByRecursion}
 use Rattle.std.proofs.lemmas.Bool.Decides.{nat_tests}
+use Rattle.case_forms.specs.Versions.{says_sender}
 use Rattle.case_forms.specs.declared.steps.SegmentPlan.{SegmentPlan}
 use Rattle.case_forms.specs.declared.steps.TakeChoice.{TakeChoice}
 use Rattle.case_forms.specs.declared.taken_line.Expired.{Expired}
@@ -144,29 +145,33 @@ not_true_false : (b : Bool) → b ≡ true → not b ≡ false
 not_true_false true is = refl
 not_true_false false is = absurd cc
 
-bad_passes : (p : Profile) (e : Endpoint) (cwnd ssthresh moment : ℕ) → MayJudge p e → is_bad_recovery e cwnd ssthresh moment ≡ false
-    → is_bad_recovery (endpoint_by p e) cwnd ssthresh moment ≡ false
-bad_passes p e cwnd ssthresh moment may fine =
+bad_passes : (v : Version) (p : Profile) (e : Endpoint) (cwnd ssthresh moment : ℕ) → MayJudge p e → is_bad_recovery v e cwnd ssthresh moment ≡ false
+    → is_bad_recovery v (endpoint_by p e) cwnd ssthresh moment ≡ false
+bad_passes v p e cwnd ssthresh moment may fine =
     let window =
-    neither (not (may_recover e.control) || e.stream.snd_una == snd_max e || nat_lt ((greatest e.control now (at_moment e moment)).1) ssthresh)
+    neither (not (says_sender v || may_recover e.control) || e.stream.snd_una == snd_max e || nat_lt ((greatest e.control now (at_moment e moment)).1) ssthresh)
     (nat_lt ((greatest e.control now (at_moment e moment)).0) cwnd) fine in
     let threshold =
-    neither (not (may_recover e.control) || e.stream.snd_una == snd_max e) (nat_lt ((greatest e.control now (at_moment e moment)).1) ssthresh) window.0 in
-    let begins = neither (not (may_recover e.control)) (e.stream.snd_una == snd_max e) threshold.0 in
-    let recovers = (more p e may).recovery (not_false (may_recover e.control) begins.0) in
+    neither (not (says_sender v || may_recover e.control) || e.stream.snd_una == snd_max e) (nat_lt ((greatest e.control now (at_moment e moment)).1) ssthresh) window.0 in
+    let begins = neither (not (says_sender v || may_recover e.control)) (e.stream.snd_una == snd_max e) threshold.0 in
+    let recovers = recovers_by (says_sender v) (not_false (says_sender v || may_recover e.control) begins.0) in
     both_false _ _
-    (both_false _ _ (both_false _ _ (not_true_false (may_recover (with_profile p e.control)) recovers) begins.1)
+    (both_false _ _ (both_false _ _ (not_true_false (says_sender v || may_recover (with_profile p e.control)) recovers) begins.1)
     (threshold_below p e now (at_moment e moment) ssthresh may threshold.1))
     (window_below p e now (at_moment e moment) cwnd may window.1)
   where
     now : Signal
     now = recovery_signal e ssthresh
 
-pub recovery_passes : (p : Profile) (e : Endpoint) (change : RecoveryChange) (cwnd ssthresh moment : ℕ) → MayJudge p e
-    → first_broken (recovery_rules e change cwnd ssthresh moment) ≡ None
-    → first_broken (recovery_rules (endpoint_by p e) change cwnd ssthresh moment) ≡ None
-recovery_passes p e change cwnd ssthresh moment may passed =
-    let t = none_all (recovery_rules e change cwnd ssthresh moment) passed in
-    let fine = neither (is_undone change) (is_bad_recovery e cwnd ssthresh moment) t.1.1.0 in
-    all_none (recovery_rules (endpoint_by p e) change cwnd ssthresh moment)
-    (t.0, (t.1.0, (both_false _ _ fine.0 (bad_passes p e cwnd ssthresh moment may fine.1), t.1.1.1)))
+    recovers_by : (b : Bool) → (b || may_recover e.control) ≡ true → (b || may_recover (with_profile p e.control)) ≡ true
+    recovers_by true is = refl
+    recovers_by false is = (more p e may).recovery is
+
+pub recovery_passes : (v : Version) (p : Profile) (e : Endpoint) (change : RecoveryChange) (cwnd ssthresh moment : ℕ) → MayJudge p e
+    → first_broken (recovery_rules v e change cwnd ssthresh moment) ≡ None
+    → first_broken (recovery_rules v (endpoint_by p e) change cwnd ssthresh moment) ≡ None
+recovery_passes v p e change cwnd ssthresh moment may passed =
+    let t = none_all (recovery_rules v e change cwnd ssthresh moment) passed in
+    let fine = neither (is_undone change) (is_bad_recovery v e cwnd ssthresh moment) t.1.1.0 in
+    all_none (recovery_rules v (endpoint_by p e) change cwnd ssthresh moment)
+    (t.0, (t.1.0, (both_false _ _ fine.0 (bad_passes v p e cwnd ssthresh moment may fine.1), t.1.1.1)))

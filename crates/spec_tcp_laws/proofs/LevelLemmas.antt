@@ -5,6 +5,7 @@ use Rattle.std.specs.Option.{option_map, option_map_or}
 use Rattle.std.proofs.lemmas.Bool.Decides.{nat_tests}
 use Rattle.std.proofs.lemmas.Option.{same_Some}
 use Rattle.case_forms.specs.States.{is_syn_sent}
+use Rattle.case_forms.specs.Versions.{says_sender}
 use Rattle.case_forms.specs.declared.calls.Answer.{Answer}
 use Rattle.case_forms.specs.declared.calls.Call.{Call}
 use Rattle.case_forms.specs.declared.calls.Host.{Host}
@@ -69,9 +70,9 @@ expiry_alike p j h moment e Msl2 = refl
 expiry_alike p j h moment e Giveup = refl
 expiry_alike p j h moment e Pto = refl
 
-recovery_alike : (p : Profile) (e : Endpoint) (change : RecoveryChange) (cwnd ssthresh moment : ℕ)
-    → Alike (recovery_rules (endpoint_by p e) change cwnd ssthresh moment) (recovery_rules e change cwnd ssthresh moment)
-recovery_alike p e change cwnd ssthresh moment = refl
+recovery_alike : (v : Version) (p : Profile) (e : Endpoint) (change : RecoveryChange) (cwnd ssthresh moment : ℕ)
+    → Alike (recovery_rules v (endpoint_by p e) change cwnd ssthresh moment) (recovery_rules v e change cwnd ssthresh moment)
+recovery_alike v p e change cwnd ssthresh moment = refl
 
 taker_alike : (p : Profile) (j : Judged) (h : Header) (me : Host) (b : HostTcp) (how : TakeChoice) (m : Emission) (moment : ℕ) (t : Taker)
     → Alike (taker_rules (header_by j h) me (body_by p b) how m moment (taker_by p t)) (taker_rules h me b how m moment t)
@@ -110,8 +111,8 @@ act_alike p j h me moment b (acts.Expires x) =
     rules_alike p b x.lport x.rport (λ e. expiry_rules h moment e x.expired) (λ e. expiry_rules (header_by j h) moment e x.expired)
     (λ e. expiry_alike p j h moment e x.expired)
 act_alike p j h me moment b (acts.Recovers x) =
-    rules_alike p b x.lport x.rport (λ e. recovery_rules e x.change x.cwnd x.ssthresh moment) (λ e. recovery_rules e x.change x.cwnd x.ssthresh moment)
-    (λ e. recovery_alike p e x.change x.cwnd x.ssthresh moment)
+    rules_alike p b x.lport x.rport (λ e. recovery_rules h.version e x.change x.cwnd x.ssthresh moment) (λ e. recovery_rules h.version e x.change x.cwnd x.ssthresh moment)
+    (λ e. recovery_alike h.version p e x.change x.cwnd x.ssthresh moment)
 
 -- of a thing that is looked up
 on_alike : {A : Type 0} (o : Option A) (none : List (Rule × Bool)) (f g : A → List (Rule × Bool)) → ((x : A) → Alike (g x) (f x))
@@ -238,19 +239,20 @@ duplicate true dup false is may = (grind (arith, nat_tests), refl)
 duplicate false dup fast is may = absurd cc
 
 pub recovery_is_due : RecoveryIsDue
-recovery_is_due e change cwnd ssthresh moment passed =
-    let t = none_all (recovery_rules e change cwnd ssthresh moment) passed in
-    let fine = neither (is_undone change) (is_bad_recovery e cwnd ssthresh moment) t.1.1.0 in
+recovery_is_due v e change cwnd ssthresh moment passed =
+    let t = none_all (recovery_rules v e change cwnd ssthresh moment) passed in
+    let fine = neither (is_undone change) (is_bad_recovery v e cwnd ssthresh moment) t.1.1.0 in
     let window =
-    neither (not (may_recover e.control) || e.stream.snd_una == snd_max e || nat_lt ((greatest e.control now (at_moment e moment)).1) ssthresh)
+    neither (not (says_sender v || may_recover e.control) || e.stream.snd_una == snd_max e || nat_lt ((greatest e.control now (at_moment e moment)).1) ssthresh)
     (nat_lt ((greatest e.control now (at_moment e moment)).0) cwnd) fine.1 in
     let threshold =
-    neither (not (may_recover e.control) || e.stream.snd_una == snd_max e) (nat_lt ((greatest e.control now (at_moment e moment)).1) ssthresh) window.0 in
-    let begins = neither (not (may_recover e.control)) (e.stream.snd_una == snd_max e) threshold.0 in
+    neither (not (says_sender v || may_recover e.control) || e.stream.snd_una == snd_max e) (nat_lt ((greatest e.control now (at_moment e moment)).1) ssthresh) window.0 in
+    let begins = neither (not (says_sender v || may_recover e.control)) (e.stream.snd_una == snd_max e) threshold.0 in
     record {
       outstanding = differ e.stream.snd_una (snd_max e) begins.1;
-      duplicates = λ counts.
-          duplicate (counts_duplicates e.control.profile) e.control.values.dup e.control.values.fast counts (not_false (may_recover e.control) begins.0);
+      duplicates = λ old counts.
+          duplicate (counts_duplicates e.control.profile) e.control.values.dup e.control.values.fast counts
+          (sym (ap (λ (b : Bool). b || may_recover e.control) old) ∙ not_false (says_sender v || may_recover e.control) begins.0);
     }
   where
     now : Signal

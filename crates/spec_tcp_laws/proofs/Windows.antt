@@ -4,6 +4,7 @@ use Rattle.std.proofs.Common.{refl, ap, sym, subst, ◌∙◌, inl, inr, arith}
 use Rattle.std.specs.Prelude.{if◌then◌else◌, ◌==◌, ◌||◌, nat_lt, not, slice_get}
 use Rattle.std.specs.Option.{option_map_or}
 use Rattle.std.proofs.lemmas.Option.{none-some, same_Some}
+use Rattle.case_forms.specs.Versions.{says_sender}
 use Rattle.case_forms.specs.declared.trace.Header.{Header}
 use Rattle.case_forms.specs.declared.calls.Host.{Host}
 use Rattle.case_forms.specs.declared.calls.Host.TheVariants as hosts
@@ -429,15 +430,15 @@ recovery_leaves h s w host x i e may at there =
 
     bound : (x.ssthresh ≤ (greatest e.control now (at_moment e s)).1) × (x.cwnd ≤ (greatest e.control now (at_moment e s)).0)
     bound =
-        let mine = rules_there (pick w.hosts host).body x.lport x.rport i e (λ e. recovery_rules e x.change x.cwnd x.ssthresh s) at there may in
-        let t = none_all (recovery_rules e x.change x.cwnd x.ssthresh s) mine in
-        let fine = neither (is_undone x.change) (is_bad_recovery e x.cwnd x.ssthresh s) t.1.1.0 in
+        let mine = rules_there (pick w.hosts host).body x.lport x.rport i e (λ e. recovery_rules h.version e x.change x.cwnd x.ssthresh s) at there may in
+        let t = none_all (recovery_rules h.version e x.change x.cwnd x.ssthresh s) mine in
+        let fine = neither (is_undone x.change) (is_bad_recovery h.version e x.cwnd x.ssthresh s) t.1.1.0 in
         let last =
-        neither (not (may_recover e.control) || e.stream.snd_una == snd_max e
+        neither (not (says_sender h.version || may_recover e.control) || e.stream.snd_una == snd_max e
         || nat_lt ((greatest e.control now (at_moment e s)).1) x.ssthresh)
         (nat_lt ((greatest e.control now (at_moment e s)).0) x.cwnd) fine.1 in
         let threshold =
-        neither (not (may_recover e.control) || e.stream.snd_una == snd_max e)
+        neither (not (says_sender h.version || may_recover e.control) || e.stream.snd_una == snd_max e)
         (nat_lt ((greatest e.control now (at_moment e s)).1) x.ssthresh) last.0 in (
           at_most_from ((greatest e.control now (at_moment e s)).1) x.ssthresh threshold.1,
           at_most_from ((greatest e.control now (at_moment e s)).0) x.cwnd last.1,

@@ -1,10 +1,12 @@
 -- Every rule but the level's own is the same at every level of congestion control.
 use Rattle.std.specs.Prelude.{◌≡◌, ◌≤◌, ◌⊎◌, ℕ, Bool, true, false, if◌then◌else◌, List, [], ◌∷◌}
 use Rattle.std.specs.Prelude.{None, Some}
+use Rattle.case_forms.specs.Versions.{says_sender}
 use Rattle.case_forms.specs.declared.calls.Host.{Host}
 use Rattle.case_forms.specs.declared.steps.TakeChoice.{TakeChoice}
 use Rattle.case_forms.specs.declared.trace.Header.{Header}
 use Rattle.case_forms.specs.declared.version.Judged.{Judged}
+use Rattle.case_forms.specs.declared.version.Version.{Version}
 use Rattle.case_forms.specs.declared.timer.RecoveryChange.{RecoveryChange}
 use Rattle.verdict.specs.declared.rule.Rule.{Rule}
 use Rattle.verdict.specs.declared.rule.Rule.TheVariants as rules
@@ -57,13 +59,13 @@ pub record RefusedAlike (h : Header) (j : Judged) : Type 0 where
       × (first_broken (step_rules (tcp (header_by j h)) moment (world_judged j h w) step) ≡ Some first)
       × ((first ≡ rule) ⊎ ((is_of_level first ≡ true) × (rule_number first ≤ rule_number rule)))
 
--- at each level, fast recovery begins only if something is outstanding; where duplicates count, from the third one on
--- and not within fast recovery (RFC 5681, 3.2, step 2)
-pub record BeginsRecovery (e : Endpoint) : Type 0 where
+-- at each level, fast recovery begins only if something is outstanding; in versions 1 to 5, where duplicates count, from
+-- the third one on and not within fast recovery (RFC 5681, 3.2, step 2)
+pub record BeginsRecovery (v : Version) (e : Endpoint) : Type 0 where
   pub outstanding : e.stream.snd_una ≡ snd_max e → ⊥
-  pub duplicates : counts_duplicates e.control.profile ≡ true
+  pub duplicates : says_sender v ≡ false → counts_duplicates e.control.profile ≡ true
       → (3 ≤ e.control.values.dup) × (e.control.values.fast ≡ false)
 
 abbrev pub RecoveryIsDue : Type 0
-RecoveryIsDue = (e : Endpoint) (change : RecoveryChange) (cwnd ssthresh moment : ℕ)
-    → first_broken (recovery_rules e change cwnd ssthresh moment) ≡ None → BeginsRecovery e
+RecoveryIsDue = (v : Version) (e : Endpoint) (change : RecoveryChange) (cwnd ssthresh moment : ℕ)
+    → first_broken (recovery_rules v e change cwnd ssthresh moment) ≡ None → BeginsRecovery v e

@@ -16,8 +16,8 @@ pub fn refused_alike()
     ensures { (h : Header) → (j : Judged) → RefusedAlike h j }
 {}
 
-/// At every level, fast recovery begins only if something is outstanding. Unless the level is `none`, it begins from
-/// the third duplicate acknowledgment on, and not within fast recovery (RFC 5681, 3.2, step 2).
+/// At every level, fast recovery begins only if something is outstanding. In versions 1 to 5, unless the level is
+/// `none`, it begins from the third duplicate acknowledgment on, and not within fast recovery (RFC 5681, 3.2, step 2).
 pub fn recovery_is_due()
     ensures { RecoveryIsDue }
 {}

@@ -29,7 +29,7 @@ use Rattle.spec_tcp.specs.Endpoints.{snd_max, rcv_nxt, flag_count}
 use Rattle.spec_tcp.specs.HostTcp.{last_from, has_ports, place_of, endpoint_of}
 use Rattle.case_forms.specs.States.{is_closed, is_syn_sent, is_syn_received}
 use Rattle.spec_tcp.specs.Makes.{making_rules}
-use Rattle.spec_tcp.specs.Makes.Payload.{making_length, is_bad_empty_place, may_repeat_fin, old_end}
+use Rattle.spec_tcp.specs.Makes.Payload.{making_length, is_bad_empty_place, old_end}
 use Rattle.spec_tcp.specs.Makes.Kind.{may_not_send, may_carry, may_finish}
 use Rattle.stack_core.specs.declared.plans.SynOptions.{SynOptions}
 use Rattle.stack_core.specs.Makings.{syn_of, bytes_of, fin_of, IsMakeable, IsTried, NothingToMake, Refuses}
@@ -154,13 +154,13 @@ module _ (v : Version) (e : Endpoint) (pos len : ℕ) (ack fin : Bool) (window :
       let finish : fin ≡ true → (e.stream.ended ≡ true) × ((pos + len == end_of e.stream.accepted) ≡ true) =
       λ p. both_true e.stream.ended _ (then_false fin _ payload.1 p) in
       let place : ((nat_lt pos e.stream.snd_una || nat_lt (snd_max e) pos)
-      || (nat_lt pos (snd_max e) && not (may_repeat_fin v (snd_max e) m) && nat_lt e.recover (old_end e m))) ≡ false =
+      || (nat_lt pos (snd_max e) && not (says_sender v) && nat_lt e.recover (old_end e m))) ≡ false =
       subst (λ (b : Bool). (if b then is_bad_empty_place e m
       else ((nat_lt pos e.stream.snd_una || nat_lt (snd_max e) pos)
-      || (nat_lt pos (snd_max e) && not (may_repeat_fin v (snd_max e) m) && nat_lt e.recover (old_end e m)))) ≡ false)
+      || (nat_lt pos (snd_max e) && not (says_sender v) && nat_lt e.recover (old_end e m)))) ≡ false)
       (is_zero (making_length m) some) t.1.1.1.1.1.0 in
       let both = neither (nat_lt pos e.stream.snd_una || nat_lt (snd_max e) pos)
-      (nat_lt pos (snd_max e) && not (may_repeat_fin v (snd_max e) m) && nat_lt e.recover (old_end e m)) place in
+      (nat_lt pos (snd_max e) && not (says_sender v) && nat_lt e.recover (old_end e m)) place in
       let low = neither (nat_lt pos e.stream.snd_una) (nat_lt (snd_max e) pos) both.0 in
       let fresh : 0 < len → snd_max e < pos + len → (nat_lt 0 len && nat_lt (snd_max e) (pos + len)) ≡ true =
       λ p q. rw (is_less 0 len p, is_less (snd_max e) (pos + len) q) refl in
@@ -328,7 +328,7 @@ syn_may p q e pos len window w ack fin iss shift new h past =
               (
                 ack_good (rcv_nxt e),
                 (
-                  syn_place e (nat_le 1 (rcv_nxt e)) (not (may_repeat_fin q (snd_max e) (syn_of e new w))) snd_una max,
+                  syn_place e (nat_le 1 (rcv_nxt e) && not (says_sender q)) (not (says_sender q)) snd_una max,
                   (
                     refl,
                     (
@@ -387,7 +387,7 @@ not_empty v e m fin h past = by_test (making_length (flagged m false false fin) 
         let place : (nat_lt (m.pos + 1) e.stream.snd_una || nat_lt (snd_max e) m.pos) ≡ false =
         subst (λ (b : Bool). (if b then is_bad_empty_place e (flagged m false false fin)
         else ((nat_lt m.pos e.stream.snd_una || nat_lt (snd_max e) m.pos)
-        || (nat_lt m.pos (snd_max e) && not (may_repeat_fin v (snd_max e) (flagged m false false fin))
+        || (nat_lt m.pos (snd_max e) && not (says_sender v)
         && nat_lt e.recover (old_end e (flagged m false false fin))))) ≡ false)
         is t.1.1.1.1.1.0 in
         let low : m.pos ≤ snd_max e = at_most m.pos (snd_max e) (neither (nat_lt (m.pos + 1) e.stream.snd_una) (nat_lt (snd_max e) m.pos) place).1 in

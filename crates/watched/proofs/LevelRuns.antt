@@ -57,20 +57,20 @@ use Rattle.watched.proofs.WaitLemmas.{any_same, same_by, waits_alike, waits_same
 
 -- ---- what is kept doesn't depend on the edge
 
-owed_same : (event : Event) (a b : ℕ) (before after : View) (moment : ℕ) (closed : Option ℕ) (strict counts : Bool) (o : Owed)
-    → owed_after event (view_with a before) (view_with b after) moment closed strict counts o ≡ owed_after event before after moment closed strict counts o
-owed_same Opens a b before after moment closed strict counts o = refl
-owed_same (Calls abort) a b before after moment closed strict counts o = refl
-owed_same (Processes length rst) a b before after moment closed strict counts o = refl
-owed_same (Drops asks unlimited) a b before after moment closed strict counts o = refl
-owed_same (Builds m) a b before after moment closed strict counts o = refl
-owed_same (Sends s) a b before after moment closed strict counts o = refl
-owed_same (Expires Rto) a b before after moment closed strict counts o = refl
-owed_same (Expires Persist) a b before after moment closed strict counts o = refl
-owed_same (Expires Msl2) a b before after moment closed strict counts o = refl
-owed_same (Expires Giveup) a b before after moment closed strict counts o = refl
-owed_same (Expires Pto) a b before after moment closed strict counts o = refl
-owed_same Recovers a b before after moment closed strict counts o = refl
+owed_same : (event : Event) (a b : ℕ) (before after : View) (moment : ℕ) (closed : Option ℕ) (counts : Bool) (o : Owed)
+    → owed_after event (view_with a before) (view_with b after) moment closed counts o ≡ owed_after event before after moment closed counts o
+owed_same Opens a b before after moment closed counts o = refl
+owed_same (Calls abort) a b before after moment closed counts o = refl
+owed_same (Processes length rst) a b before after moment closed counts o = refl
+owed_same (Drops asks unlimited) a b before after moment closed counts o = refl
+owed_same (Builds m) a b before after moment closed counts o = refl
+owed_same (Sends s) a b before after moment closed counts o = refl
+owed_same (Expires Rto) a b before after moment closed counts o = refl
+owed_same (Expires Persist) a b before after moment closed counts o = refl
+owed_same (Expires Msl2) a b before after moment closed counts o = refl
+owed_same (Expires Giveup) a b before after moment closed counts o = refl
+owed_same (Expires Pto) a b before after moment closed counts o = refl
+owed_same Recovers a b before after moment closed counts o = refl
 
 mere_same : (a b : ℕ) (after : View) (t : TouchedEndpoint) → builds_mere_ack (view_with b after) (touched_with a t) ≡ builds_mere_ack after t
 mere_same a b after t = by t.event
@@ -194,7 +194,7 @@ duties_same strict slack a b after moment s d =
         }
     by None = refl
     by (Some t) =
-        rw (owed_same t.event a b t.before after moment _ _ _ _) refl
+        rw (owed_same t.event a b t.before after moment _ _ _) refl
 
 -- ---- if less is judged, no more rules are broken
 
@@ -226,12 +226,11 @@ beyond_passes true true false d x y less lower e = refl
 beyond_passes true false c d x y less lower e = let is : false ≡ true = less refl in absurd cc
 beyond_passes false b c d x y less lower e = refl
 
-resent_less : (strict : Bool) (j k : Judged) (edge : ℕ) (event : Event) (v : View) (again : ℕ) → extent j ≤ extent k
-    → is_resent strict k event v again ≡ false
-    → is_resent strict j event (view_with edge v) again ≡ false
-resent_less strict j k edge (Builds m) v again le e =
-    repeat_passes (judges_repeats j) (judges_repeats k) (is_repeating strict v m) (nat_lt m.pos again) (repeats_less j k le) e
-resent_less strict j k edge _ v again le e = refl
+resent_less : (j k : Judged) (edge : ℕ) (event : Event) (v : View) (again : ℕ) → extent j ≤ extent k → is_resent k event v again ≡ false
+    → is_resent j event (view_with edge v) again ≡ false
+resent_less j k edge (Builds m) v again le e =
+    repeat_passes (judges_repeats j) (judges_repeats k) (is_repeating v m) (nat_lt m.pos again) (repeats_less j k le) e
+resent_less j k edge _ v again le e = refl
 
 below : (low high n : ℕ) → low ≤ high → nat_lt low n ≡ false → nat_lt high n ≡ false
 below low high n le e = grind (arith, nat_tests)
@@ -263,7 +262,7 @@ touched_fewer j h slack moment d counts sent s edge change (Some t) le higher = 
           (
             λ e. e,
             (
-              resent_less (says_sender h.version) j h.congestion edge t.event t.before _ le,
+              resent_less j h.congestion edge t.event t.before _ le,
               (
                 beyond_less j h.congestion edge t.event t.before le higher,
                 (λ e. e, (λ e. e, tt)),

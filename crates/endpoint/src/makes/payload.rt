@@ -2,7 +2,7 @@
 
 ghost use Rattle.spec_tcp.specs.Bounds.{greatest_position};
 ghost use Rattle.spec_tcp.specs.Makes.Payload.{making_length, has_new_bytes, is_bad_payload, old_end};
-ghost use Rattle.spec_tcp.specs.Makes.Payload.{is_bad_empty_place, is_bad_place, is_fin_alone, may_repeat_fin};
+ghost use Rattle.spec_tcp.specs.Makes.Payload.{is_bad_empty_place, is_bad_place};
 ghost use Rattle.std.specs.Prelude.{◌≡◌, ◌≤◌};
 
 use case_forms::{SegmentPlan, Version};
@@ -54,23 +54,6 @@ fn is_bad_empty_place(endpoint: &Endpoint, making: &SegmentPlan) -> bool
     making.pos + 1 < endpoint.stream.snd_una || endpoint.snd_max() < making.pos
 }
 
-fn is_fin_alone(snd_max: u64, making: &SegmentPlan) -> bool
-    ensures { result ≡ is_fin_alone snd_max making.now }
-{
-    making.flags.fin
-        && !making.flags.syn
-        && !making.flags.rst
-        && making.len == 0
-        && making.pos < snd_max
-}
-
-// From version 6 on, a FIN alone may be sent again at any time (RFC 9293, 3.10.4).
-fn may_repeat_fin(version: Version, snd_max: u64, making: &SegmentPlan) -> bool
-    ensures { result ≡ may_repeat_fin version snd_max making.now }
-{
-    version.says_sender() && is_fin_alone(snd_max, making)
-}
-
 pub(crate) fn is_bad_place(version: Version, endpoint: &Endpoint, making: &SegmentPlan) -> bool
     requires { making.now.pos ≤ greatest_position }
     ensures { result ≡ is_bad_place version endpoint.now making.now }
@@ -80,7 +63,7 @@ pub(crate) fn is_bad_place(version: Version, endpoint: &Endpoint, making: &Segme
     if making.flags.rst {
         return is_outside;
     }
-    if making.flags.syn && making.flags.ack {
+    if making.flags.syn && making.flags.ack && !version.says_sender() {
         return false;
     }
     if making_length(making) == 0 {
@@ -88,6 +71,6 @@ pub(crate) fn is_bad_place(version: Version, endpoint: &Endpoint, making: &Segme
     }
     is_outside
         || making.pos < end
-            && !may_repeat_fin(version, end, making)
+            && !version.says_sender()
             && endpoint.recover < old_end(endpoint, making)
 }

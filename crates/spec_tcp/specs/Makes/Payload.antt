@@ -32,20 +32,12 @@ old_end e m = min (m.pos + making_length m) (snd_max e)
 abbrev pub is_bad_empty_place : Endpoint → SegmentPlan → Bool
 is_bad_empty_place e m = nat_lt (m.pos + 1) e.stream.snd_una || nat_lt (snd_max e) m.pos
 
--- a FIN alone: without bytes, and it was sent before
-abbrev pub is_fin_alone : (snd_max : ℕ) → SegmentPlan → Bool
-is_fin_alone snd_max m = m.flags.fin && not m.flags.syn && not m.flags.rst && m.len == 0 && nat_lt m.pos snd_max
-
--- from version 6 on, a FIN alone may be sent again at any time (RFC 9293, 3.10.4)
-abbrev pub may_repeat_fin : Version → (snd_max : ℕ) → SegmentPlan → Bool
-may_repeat_fin v snd_max m = says_sender v && is_fin_alone snd_max m
-
 -- any other segment below the oldest unacknowledged position, or with a gap after what was sent, or that retransmits
--- beyond where recovery began
+-- beyond where recovery began; from version 6 on, the model doesn't ask what is retransmitted
 abbrev pub is_bad_place : Version → Endpoint → SegmentPlan → Bool
 is_bad_place v e m =
     if m.flags.rst then nat_lt m.pos e.stream.snd_una || nat_lt (snd_max e) m.pos
-    else if m.flags.syn && m.flags.ack then false
+    else if m.flags.syn && m.flags.ack && not (says_sender v) then false
     else if making_length m == 0 then is_bad_empty_place e m
     else nat_lt m.pos e.stream.snd_una || nat_lt (snd_max e) m.pos
-    || nat_lt m.pos (snd_max e) && not (may_repeat_fin v (snd_max e) m) && nat_lt e.recover (old_end e m)
+    || nat_lt m.pos (snd_max e) && not (says_sender v) && nat_lt e.recover (old_end e m)
