@@ -8,6 +8,8 @@ pub mod Gone
 pub mod Keeping
 pub mod RunLemmas
 pub mod MarkLemmas
+pub mod RangeLemmas
+pub mod RangeEdits
 pub mod MadeLemmas
 pub mod ReadLemmas
 pub mod Thens

@@ -4,6 +4,8 @@ pub mod Received
 pub mod Sent
 pub mod Transmissions
 pub mod Marks
+pub mod Ranges
+pub mod RangeEntries
 pub mod Forgetting
 pub mod InOrder
 pub mod Views

@@ -25,6 +25,7 @@ mod cell;
 mod cell_queue;
 mod laws;
 mod marks;
+mod ranges;
 mod receive;
 mod runs;
 mod send;
@@ -35,6 +36,7 @@ pub use cell::Cell;
 pub use laws::{
     forgetting_streams, forgetting_transmissions, starts_are_prefixes, streams_in_order,
 };
+pub use ranges::Ranges;
 pub use receive::ReceiveBuffer;
 pub use send::SendBuffer;
 pub use transmission::Transmission;
