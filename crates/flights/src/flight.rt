@@ -53,10 +53,7 @@ impl Flight {
     fn may_go_again(&self, v: &View, plan: &SegmentPlan) -> bool
         ensures { result ≡ may_go_again v.now plan.now self.now }
     {
-        let upto = plan
-            .pos
-            .saturating_add(making_length(plan))
-            .min(v.snd_max);
+        let upto = plan.pos.saturating_add(making_length(plan)).min(v.snd_max);
         self.marks.covers(plan.pos, upto)
             || are_selective(self.sides) && is_recovering(v, self.recovery)
     }

@@ -1,7 +1,9 @@
 -- What is found from left to right is the segment or the first fault of bytes.
 use Rattle.std.proofs.Common.{◌≡◌, ◌≢◌, ◌≤◌, ◌<◌, ℕ, zero, suc, ◌+◌, ◌-◌, List, [], ◌∷◌, ◌++◌, length, take, drop}
-use Rattle.std.proofs.Common.{Option, Some, None, Result, Ok, Err, refl, ap, subst, arith, inl, inr}
-use Rattle.std.specs.Prelude.{◌==◌, ◌&&◌, ◌||◌, nat_lt, nat_le, IfOk, IfErr}
+use Rattle.std.proofs.Common.{Option, Some, None, Result, Ok, Err, refl, sym, ◌∙◌, ap, subst, arith, inl, inr}
+use Rattle.std.specs.Prelude.{◌==◌, ◌&&◌, ◌||◌, nat_lt, nat_le, IfOk, IfErr, Bool, false}
+use Rattle.std.specs.List.{list_any}
+use Rattle.std.specs.Option.{option_map, option_map_or}
 use Rattle.std.proofs.lemmas.Bool.{eqb-true, eqb-false, leb-true, le-leb, ltb-true, ltb-false, and_parts, and_from, or_parts, or_cases, cond_both, both_ways}
 use Rattle.std.proofs.lemmas.List.{take-append-drop, length-take, length-drop}
 use Rattle.segment.specs.declared.fault.SegFault.{SegFault}
@@ -9,7 +11,7 @@ use Rattle.segment.specs.declared.fault.SegFault.TheVariants.{Short, Offset, Opt
 use Rattle.segment.specs.declared.fields.Segment.{Segment}
 use Rattle.segment.specs.Options.{Item, padding, option, IsEnd, IsNext, IsCut, HasNoItems}
 use Rattle.segment.specs.Layout.{IsSegment, IsFault, HasHeader, max_len, header_len, options_of}
-use Rattle.segment.specs.Reading.{in_front, option_items, items_within, items_of, with_items, segment_of, Gives, ReadsByLayout}
+use Rattle.segment.specs.Reading.{in_front, is_sack_permission, option_items, items_within, items_of, with_items, segment_of, Gives, ReadsByLayout}
 use Rattle.segment.proofs.Cuts.{HasNoItems-before, IsCut-unique, no_items}
 use Rattle.segment.proofs.Unique.{IsSegment-unique, IsFault-no_segment}
 
@@ -76,6 +78,31 @@ items_next item rest bytes next = by (items_of rest) (items_within-cuts (suc (le
     by : (o : Option (List Item)) → IsCutting rest o → items_of bytes ≡ in_front item o
     by None none = items_none bytes (HasNoItems-before item rest bytes next none)
     by (Some items) cut = same items (items_of bytes) (rest, next, cut) (items_within-cuts (suc (length bytes)) bytes (omega arith))
+
+-- whether an option permits selective acknowledgments, by what is found first
+permitted_front : (item : Item) (items : Option (List Item))
+    → option_map (list_any is_sack_permission) (in_front item items)
+    ≡ option_map (λ later. is_sack_permission item || later) (option_map (list_any is_sack_permission) items)
+permitted_front item None = refl
+permitted_front item (Some items) = refl
+
+pub permitted_next : (item : Item) (rest bytes : List ℕ) (later : Option Bool) → IsNext item rest bytes
+    → later ≡ option_map (list_any is_sack_permission) (items_of rest)
+    → option_map (list_any is_sack_permission) (items_of bytes) ≡ option_map (λ more. is_sack_permission item || more) later
+permitted_next item rest bytes later next is =
+    ap (option_map (list_any is_sack_permission)) (items_next item rest bytes next) ∙ permitted_front item (items_of rest)
+    ∙ ap (option_map (λ more. is_sack_permission item || more)) (sym is)
+
+pub permitted_end : (bytes : List ℕ) → IsEnd bytes → option_map (list_any is_sack_permission) (items_of bytes) ≡ Some false
+permitted_end bytes end = ap (option_map (list_any is_sack_permission)) (items_end bytes end)
+
+pub permitted_none : (bytes : List ℕ) → HasNoItems bytes → option_map (list_any is_sack_permission) (items_of bytes) ≡ None
+permitted_none bytes none = ap (option_map (list_any is_sack_permission)) (items_none bytes none)
+
+pub permitted_is : (items : Option (List Item)) (permits : Bool) → Some permits ≡ option_map (list_any is_sack_permission) items
+    → permits ≡ option_map_or (list_any is_sack_permission) items false
+permitted_is None permits is = absurd cc
+permitted_is (Some items) permits is = cc
 
 -- a segment is the bytes' own, and a fault their first
 abbrev IsOfBytes : List ℕ → Result Segment SegFault → Type 0

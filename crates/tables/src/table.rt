@@ -175,9 +175,11 @@ impl<V: Drop> Table<V> {
         ensures value { result ≡ lookup (nat_eq number) self.old.entries }
         ensures entries { self.new.entries ≡ changed_at (λ old. value) self.old.entries number }
     {
-        let place = place_of(&self.entries, &self.index, number)?;
-        self.ready = None;
-        Some(replace(&mut self.entries[place].1, value))
+        if let Some(place) = place_of(&self.entries, &self.index, number) {
+            self.ready = None;
+            return Some(replace(&mut self.entries[place].1, value));
+        }
+        None
     }
 }
 

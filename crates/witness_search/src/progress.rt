@@ -9,8 +9,8 @@ mod steps;
 use crate::key::EndpointKey;
 use crate::log::Log;
 use crate::pass::Sought;
+use crate::watch::Beside;
 use case_forms::Host;
-use duties::Duties;
 use endpoint_state::{Endpoint, World};
 pub(crate) use owed::Overdue;
 use spec_tcp::{Arrived, Emission};
@@ -23,11 +23,11 @@ pub(crate) enum Will {
     Insist,
 }
 
-/// The world after the steps so far, what its hosts owe, and these steps.
+/// The world after the steps so far, what is kept beside it, and these steps.
 #[derive(Drop)]
 pub(crate) struct Progress {
     world: World,
-    duties: Duties,
+    beside: Beside,
     pub log: Log,
 }
 
@@ -42,7 +42,7 @@ impl Progress {
         let (alloc, header) = (sought.alloc, sought.header);
         Progress {
             world: World::start(alloc, header),
-            duties: Duties::start(alloc),
+            beside: Beside::start(alloc),
             log: Log::new(sought),
         }
     }

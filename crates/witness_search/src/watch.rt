@@ -1,4 +1,5 @@
-//! Steps that duties judge, too (version 5 with a slack).
+//! Steps that are judged beside the model: by duties (version 5 with a slack), and by what is kept of data in flight
+//! (version 6).
 
 ghost use Rattle.std.specs.Prelude.{◌<◌};
 ghost use Rattle.spec_tcp.specs.Bounds.{most_steps};
@@ -7,16 +8,35 @@ ghost use Rattle.spec_step.specs.Acts.{IsSmall};
 use case_forms::TakenLine;
 use duties::Duties;
 use endpoint_state::{StepFault, World};
-use spec_duties::Observation;
+use flights::Flights;
+use spec_duties::{Observation, View};
 use spec_step::{Hidden, ModelStep};
+use std::alloc::Global;
 use verdict::Rule;
 use watched::{note_waits, observe_hidden, observe_line, view_in};
 
-/// When a step is done, and how duties judge it.
+/// What is kept beside the world: data in flight, and what hosts owe.
+#[derive(Drop)]
+pub(crate) struct Beside {
+    flights: Flights,
+    pub duties: Duties,
+}
+
+impl Beside {
+    /// Before the first step.
+    pub(crate) fn start(alloc: Global) -> Beside {
+        Beside {
+            flights: Flights::start(alloc),
+            duties: Duties::start(alloc),
+        }
+    }
+}
+
+/// When a step is done, and how it is judged.
 #[derive(Clone, Copy)]
 pub(crate) struct Watch {
-    /// How late a host may be with what it must do, in microseconds.
-    pub slack: u64,
+    /// How late a host may be with what it must do, in microseconds. None: no duty is judged.
+    pub slack: Option<u64>,
     /// The moment of the step, in microseconds.
     pub moment: u64,
     /// Whether a step that only a duty refuses is done all the same.
@@ -26,8 +46,9 @@ pub(crate) struct Watch {
 impl Watch {
     // The rule of a duty that a step breaks. None: it breaks none.
     fn broken(self, world: &World, duties: &Duties, seen: &Observation) -> Option<Rule> {
+        let slack = self.slack?;
         duties
-            .admits(world.header(), self.slack, self.moment, seen)
+            .admits(world.header(), slack, self.moment, seen)
             .err()
     }
 
@@ -41,14 +62,17 @@ impl Watch {
     fn judge<S: ModelStep>(
         self,
         world: &World,
-        duties: &Duties,
+        beside: &Beside,
         step: &S,
         seen: &Observation,
     ) -> Result<Option<Rule>, Rule>
         requires steps { world.now.steps < most_steps }
         requires small { S.is_small step.now }
     {
-        let broken = self.broken(world, duties, seen);
+        if let Some(refused) = beside.flights.refusal(world.header(), seen) {
+            return Err(earlier(step.admits(world, self.moment), refused));
+        }
+        let broken = self.broken(world, &beside.duties, seen);
         if let Some(rule) = broken {
             self.permits(rule, step.admits(world, self.moment))?;
         }
@@ -56,30 +80,40 @@ impl Watch {
     }
 
     // What hosts owe after a step.
-    fn note(self, world: &World, duties: &mut Duties, seen: &Observation) -> Result<(), StepFault> {
-        let now = view_in(world, &seen.touched);
+    fn note_duties(
+        self,
+        world: &World,
+        duties: &mut Duties,
+        seen: &Observation,
+        now: &View,
+    ) -> Result<(), StepFault> {
+        let Some(slack) = self.slack else {
+            return Ok(());
+        };
         let strict = world.header().version.says_sender();
-        duties.note(strict, self.slack, self.moment, seen, &now)?;
+        duties.note(strict, slack, self.moment, seen, now)?;
         if strict {
             note_waits(world, duties, self.moment, seen)?;
         }
         Ok(())
     }
 
-    // Does a step, of which duties see this.
+    // Does a step, of which this is seen.
     fn step<S: ModelStep + Drop>(
         self,
         world: &mut World,
-        duties: &mut Duties,
+        beside: &mut Beside,
         step: S,
         seen: &Observation,
     ) -> Result<Option<Rule>, StepFault>
         requires steps { world.old.steps < most_steps }
         requires small { S.is_small step }
     {
-        let broken = self.judge(world, duties, &step, seen)?;
+        let broken = self.judge(world, beside, &step, seen)?;
         step.apply(world, self.moment)?;
-        self.note(world, duties, seen)?;
+        let now = view_in(world, &seen.touched);
+        beside.flights.note(world.header(), seen, &now)?;
+        self.note_duties(world, &mut beside.duties, seen, &now)?;
         Ok(broken)
     }
 
@@ -88,26 +122,34 @@ impl Watch {
     pub(crate) fn line(
         self,
         world: &mut World,
-        duties: &mut Duties,
+        beside: &mut Beside,
         line: TakenLine,
     ) -> Result<Option<Rule>, StepFault>
         requires { world.old.steps < most_steps }
     {
         let seen = observe_line(world, self.moment, &line);
-        self.step(world, duties, line, &seen)
+        self.step(world, beside, line, &seen)
     }
 
     /// Does a step that takes none, in the same way.
     pub(crate) fn hidden(
         self,
         world: &mut World,
-        duties: &mut Duties,
+        beside: &mut Beside,
         step: Hidden<'_>,
     ) -> Result<Option<Rule>, StepFault>
         requires steps { world.old.steps < most_steps }
         requires small { IsSmall step }
     {
         let seen = observe_hidden(world, self.moment, &step);
-        self.step(world, duties, step, &seen)
+        self.step(world, beside, step, &seen)
+    }
+}
+
+// The rule with the lower number that a step breaks, of this one and of the model's.
+fn earlier(admitted: Result<(), Rule>, refused: Rule) -> Rule {
+    match admitted {
+        Err(rule) if rule.number() < refused.number() => rule,
+        Ok(()) | Err(_) => refused,
     }
 }

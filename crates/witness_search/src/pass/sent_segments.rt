@@ -113,10 +113,18 @@ impl Progress {
         if is_closed && self.add_expiry(key, Timer::Persist)? {
             return Ok(true);
         }
-        if self.try_recovery(key)? {
-            return Ok(true);
+        if self.recovers_first(key) {
+            return Ok(self.try_recovery(key)? || self.expire_any(key)?);
         }
-        self.expire_any(key)
+        Ok(self.expire_any(key)? || self.try_recovery(key)?)
+    }
+
+    // Whether fast recovery is tried before an expiry. From version 6 on, an endpoint that acknowledges selectively may
+    // begin it at any time, but it's likely only after a duplicate acknowledgment.
+    fn recovers_first(&self, key: EndpointKey) -> bool {
+        let endpoint = self.endpoint(key);
+        !self.world().header().version.says_sender()
+            || endpoint.is_some_and(|endpoint| 0 < endpoint.control.values.dup)
     }
 
     // A timer expires: the retransmission timer, or else the persist timer.

@@ -35,7 +35,7 @@ impl Progress {
         }
         let place = self.world.body(key.host()).place_of(key.lport, key.rport);
         match place {
-            Some(place) => self.duties.owed_by(key.host(), place).answers == 0,
+            Some(place) => self.beside.duties.owed_by(key.host(), place).answers == 0,
             None => false,
         }
     }
@@ -47,7 +47,7 @@ impl Progress {
             return None;
         }
         let header = self.world.header();
-        let (_, rule) = late_at_end(header, slack, moment, &self.duties, &self.world)?;
+        let (_, rule) = late_at_end(header, slack, moment, &self.beside.duties, &self.world)?;
         let key = match self.late_on(Host::Zero, slack, rule) {
             None => self.late_on(Host::One, slack, rule),
             zero => zero,
@@ -58,7 +58,7 @@ impl Progress {
 
     // The endpoint that built the first segment that wasn't sent and breaks this rule after the last line (version 6).
     fn late_with_unsent(&self, slack: u64, rule: Rule) -> Option<EndpointKey> {
-        for entry in self.duties.unsent() {
+        for entry in self.beside.duties.unsent() {
             if let Some(unsent) = &entry.1
                 && self.is_unsent_late(unsent, slack, rule)
             {
@@ -115,6 +115,7 @@ impl Progress {
         let (header, view) = (self.world.header(), view_of(endpoint));
         let moment = self.log.moment;
         let lates = self
+            .beside
             .duties
             .judged_lates(header, slack, moment, None, id, &view);
         admits_lates(lates).err() == Some(rule)

@@ -44,30 +44,31 @@ fn label_of(step: Hidden<'_>) -> Result<Label<NamedLine>, OutOfMemory> {
 }
 
 impl Progress {
-    // How duties judge a step that is done now.
-    fn watch(&self, slack: u64, will: Will) -> Watch {
+    // Whether something is kept beside the model: what hosts owe, or, from version 6 on, data in flight.
+    fn is_watched(&self) -> bool {
+        self.slack().is_some() || self.is_strict()
+    }
+
+    // Whether the version is 6 or later: then calls that wait are judged, too.
+    fn is_strict(&self) -> bool {
+        self.world.header().version.says_sender()
+    }
+
+    // How a step that is done now is judged beside the model.
+    fn watch(&self, will: Will) -> Watch {
         Watch {
-            slack,
+            slack: self.slack(),
             moment: self.log.moment,
             forgives: self.log.forgives && will == Will::Insist,
         }
     }
 
-    // How late an answer may be. None: answers aren't judged, as in versions 1 to 5.
-    fn answer_slack(&self) -> Option<u64> {
-        if self.world.header().version.says_sender() {
-            self.slack()
-        } else {
-            None
-        }
-    }
-
-    // Does a step that takes a line and that duties judge.
-    fn watch_line(&mut self, slack: u64, line: TakenLine, will: Will) -> Result<(), StepFault>
+    // Does a step that takes a line and is judged beside the model.
+    fn watch_line(&mut self, line: TakenLine, will: Will) -> Result<(), StepFault>
         requires { self.old.world.steps < most_steps }
     {
-        let watch = self.watch(slack, will);
-        let broken = watch.line(&mut self.world, &mut self.duties, line)?;
+        let watch = self.watch(will);
+        let broken = watch.line(&mut self.world, &mut self.beside, line)?;
         self.log.forgive(broken);
         Ok(())
     }
@@ -77,15 +78,13 @@ impl Progress {
         requires steps { self.old.world.steps < most_steps }
         requires small { IsSmall step }
     {
-        match self.slack() {
-            Some(slack) => {
-                let watch = self.watch(slack, will);
-                let broken = watch.hidden(&mut self.world, &mut self.duties, step)?;
-                self.log.forgive(broken);
-                Ok(())
-            }
-            None => step.apply(&mut self.world, self.log.moment),
+        if !self.is_watched() {
+            return step.apply(&mut self.world, self.log.moment);
         }
+        let watch = self.watch(will);
+        let broken = watch.hidden(&mut self.world, &mut self.beside, step)?;
+        self.log.forgive(broken);
+        Ok(())
     }
 
     // Does a step that takes no line, and writes it down, also if it isn't done and nothing else is left to do. What it
@@ -105,15 +104,10 @@ impl Progress {
     pub(crate) fn begin(&mut self, thread: u32, call: &Call) -> Result<u64, Stop> {
         has_room(&self.world)?;
         let (line, call) = (self.log.number, call.copy()?);
-        let done = match self.answer_slack() {
-            Some(slack) => {
-                self.watch_line(
-                    slack,
-                    TakenLine::CallBegin { line, thread, call },
-                    Will::Insist,
-                )
-            }
-            None => self.world.begin(thread, call),
+        let done = if self.is_strict() {
+            self.watch_line(TakenLine::CallBegin { line, thread, call }, Will::Insist)
+        } else {
+            self.world.begin(thread, call)
         };
         self.log.push_current(Extras::Bare, done)
     }
@@ -122,20 +116,18 @@ impl Progress {
     pub(crate) fn finish(&mut self, thread: u32, answer: &Answer) -> Result<u64, Stop> {
         has_room(&self.world)?;
         let line = self.log.number;
-        let done = match self.answer_slack() {
-            Some(slack) => {
-                let answer = answer.copy()?;
-                self.watch_line(
-                    slack,
-                    TakenLine::CallEnd {
-                        line,
-                        thread,
-                        answer,
-                    },
-                    Will::Insist,
-                )
-            }
-            None => self.world.finish(thread, answer),
+        let done = if self.is_strict() {
+            let answer = answer.copy()?;
+            self.watch_line(
+                TakenLine::CallEnd {
+                    line,
+                    thread,
+                    answer,
+                },
+                Will::Insist,
+            )
+        } else {
+            self.world.finish(thread, answer)
         };
         self.log.push_current(Extras::Bare, done)
     }
@@ -145,20 +137,18 @@ impl Progress {
         has_room(&self.world)?;
         let (line, moment) = (self.log.number, self.log.moment);
         let wire = wire.copy()?;
-        let done = match self.slack() {
-            Some(slack) => {
-                self.watch_line(
-                    slack,
-                    TakenLine::Sent {
-                        line,
-                        host,
-                        made,
-                        wire,
-                    },
-                    Will::Insist,
-                )
-            }
-            None => self.world.send(host, line, made, wire, moment),
+        let done = if self.is_watched() {
+            self.watch_line(
+                TakenLine::Sent {
+                    line,
+                    host,
+                    made,
+                    wire,
+                },
+                Will::Insist,
+            )
+        } else {
+            self.world.send(host, line, made, wire, moment)
         };
         self.log.push_current(Extras::One(made), done)
     }
@@ -167,12 +157,11 @@ impl Progress {
     pub(crate) fn hear(&mut self, host: Host, wire: &Wire) -> Result<u64, Stop> {
         has_room(&self.world)?;
         let (line, moment) = (self.log.number, self.log.moment);
-        let done = match self.slack() {
-            Some(slack) => {
-                let wire = wire.copy()?;
-                self.watch_line(slack, TakenLine::Heard { line, host, wire }, Will::Insist)
-            }
-            None => self.world.hear(host, line, wire, moment),
+        let done = if self.is_watched() {
+            let wire = wire.copy()?;
+            self.watch_line(TakenLine::Heard { line, host, wire }, Will::Insist)
+        } else {
+            self.world.hear(host, line, wire, moment)
         };
         self.log.push_current(Extras::Bare, done)
     }
@@ -182,20 +171,18 @@ impl Progress {
         has_room(&self.world)?;
         let (line, moment) = (self.log.number, self.log.moment);
         let wire = wire.copy()?;
-        let done = match self.slack() {
-            Some(slack) => {
-                self.watch_line(
-                    slack,
-                    TakenLine::Came {
-                        line,
-                        host,
-                        copied,
-                        wire,
-                    },
-                    Will::Insist,
-                )
-            }
-            None => self.world.arrive(host, line, copied, wire, moment),
+        let done = if self.is_watched() {
+            self.watch_line(
+                TakenLine::Came {
+                    line,
+                    host,
+                    copied,
+                    wire,
+                },
+                Will::Insist,
+            )
+        } else {
+            self.world.arrive(host, line, copied, wire, moment)
         };
         self.log.push_current(Extras::One(saturated(copied)), done)
     }
@@ -205,20 +192,18 @@ impl Progress {
         requires { self.old.world.steps < most_steps }
     {
         let (host, ports, line) = (key.host(), key.ports(), self.log.number);
-        match self.slack() {
-            Some(slack) => {
-                self.watch_line(
-                    slack,
-                    TakenLine::Expired {
-                        line,
-                        host,
-                        ports,
-                        expired,
-                    },
-                    will,
-                )
-            }
-            None => Ok(self.world.expire(host, ports, expired, self.log.moment)?),
+        if self.is_watched() {
+            self.watch_line(
+                TakenLine::Expired {
+                    line,
+                    host,
+                    ports,
+                    expired,
+                },
+                will,
+            )
+        } else {
+            Ok(self.world.expire(host, ports, expired, self.log.moment)?)
         }
     }
 
