@@ -110,9 +110,9 @@ impl Ranges {
         }
     }
 
-    /// Removes the positions below this one.
+    /// Removes the positions below this one, for which no memory is needed.
     pub fn forget_below(&mut self, position: u64)
-        ensures { self.new ≡ set.retain self.old (nat_le position) }
+        ensures { self.new ≡ set.difference self.old (span 0 position) }
     {
         drop_between(&mut self.starts, 0, position);
         self.starts.remove(&position);

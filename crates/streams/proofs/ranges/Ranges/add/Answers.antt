@@ -3,7 +3,7 @@ use Rattle.std.specs.FinSet.{FinSet, union}
 use Rattle.std.specs.Ordering.{nat_cmp}
 use Rattle.streams.specs.Ranges.{span}
 use Rattle.streams.specs.RangeEntries.{AreApart, held, joined_end, joined_start}
-use Rattle.streams.proofs.RangeEdits.{added_apart, added_entries, added_set, end_from, none_added, put}
+use Rattle.streams.proofs.RangeAdded.{added_apart, added_entries, added_set, end_from, none_added, put}
 use Rattle.streams.proofs.ranges.Ranges.add.Goals as goal
 
 pub returns-then-upto-from-clause-ok : goal.returns-then-upto-from-clause-ok

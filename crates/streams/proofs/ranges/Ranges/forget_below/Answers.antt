@@ -1,8 +1,9 @@
-use Rattle.std.proofs.Common.{◌≡◌, ◌∙◌, ap, refl, sym, subst, nat_le}
-use Rattle.std.specs.FinSet.{FinSet, retain}
+use Rattle.std.proofs.Common.{◌≡◌, ◌∙◌, ap, refl, sym, subst}
+use Rattle.std.specs.FinSet.{FinSet, difference}
 use Rattle.std.specs.Ordering.{nat_cmp}
+use Rattle.streams.specs.Ranges.{span}
 use Rattle.streams.specs.RangeEntries.{AreApart, cleared, held}
-use Rattle.streams.proofs.RangeEdits.{cleared_entries, forgotten_apart, forgotten_set}
+use Rattle.streams.proofs.RangeRemoved.{cleared_entries, forgotten_apart, forgotten_set}
 use Rattle.streams.proofs.ranges.Ranges.forget_below.Goals as goal
 
 entries : (c : goal.After-begin_at) → c.begin_at.new.starts.entries ≡ cleared 0 c.args.position c.self.inside.starts.entries
@@ -17,4 +18,4 @@ pub returns : goal.returns
 returns c =
     ap held (entries c)
     ∙ (forgotten_set c.self.inside.starts.entries c.args.position c.self.invariant
-    ∙ ap (λ (s : FinSet nat_cmp). retain s (nat_le c.args.position)) c.self.view_is)
+    ∙ ap (λ (s : FinSet nat_cmp). difference s (span 0 c.args.position)) c.self.view_is)

@@ -3,7 +3,7 @@ use Rattle.std.specs.FinSet.{FinSet, difference}
 use Rattle.std.specs.Ordering.{nat_cmp}
 use Rattle.streams.specs.Ranges.{span}
 use Rattle.streams.specs.RangeEntries.{AreApart, cleared, held, with_lower}
-use Rattle.streams.proofs.RangeEdits.{cleared_entries, none_removed, removed_apart, removed_set}
+use Rattle.streams.proofs.RangeRemoved.{cleared_entries, none_removed, removed_apart, removed_set}
 use Rattle.streams.proofs.ranges.Ranges.remove.Goals as goal
 
 pub returns-then-upto-from-clause-ok : goal.returns-then-upto-from-clause-ok
