@@ -1,9 +1,9 @@
 -- What there is once positions were added.
-use Rattle.std.proofs.Common.{◌≡◌, ℕ, suc, ◌<◌, ◌≤◌, min, Bool, true, false, not, ◌&&◌, ◌||◌, nat_le, nat_lt, List, [], ◌∷◌, refl, sym, ap, ◌∙◌, subst, arith}
+use Rattle.std.proofs.Common.{◌≡◌, ℕ, suc, ◌<◌, ◌≤◌, min, Bool, true, false, ◌&&◌, ◌||◌, nat_le, nat_lt, List, [], ◌∷◌, refl, sym, ap, ◌∙◌, subst, arith}
 use Rattle.std.proofs.lemmas.Bool.Decides.{nat_tests}
 use Rattle.std.specs.Ordering.{nat_cmp}
 use Rattle.std.specs.Cmp.{nat_cmp_total}
-use Rattle.std.specs.declared.cmp.Ordering.TheVariants.{Less, Equal, Greater}
+use Rattle.std.specs.declared.cmp.Ordering.TheVariants.{Less, Greater}
 use Rattle.std.specs.BTreeMap.{insert_entry}
 use Rattle.std.specs.FinSet.{FinSet, contains, union, same_set, contains-union, nat_cmp-IsAntisymmetric}
 use Rattle.streams.specs.Ranges.{span}
@@ -146,7 +146,7 @@ tail_apart (e ∷ es) from upto start h ends some =
         let under : e.0 < upto = grind (arith, nat_tests, is) in
         let end : upto ≤ joined_end upto es = end_from es upto in
         subst (AreApart start) (sym (ap (λ (n : ℕ). put from n start (e ∷ es)) (end_later e es upto under)
-            ∙ put_joined e es from (joined_end upto es) start ends (omega (arith, under, end)))) rest
+        ∙ put_joined e es from (joined_end upto es) start ends (omega (arith, under, end)))) rest
     by true is true begun rest =
         let over : upto ≤ e.0 = grind (arith, nat_tests, is) in
         let first : e.1 ≤ upto = grind (arith, nat_tests, begun) in
@@ -156,7 +156,7 @@ tail_apart (e ∷ es) from upto start h ends some =
         let over : upto ≤ e.0 = grind (arith, nat_tests, is) in
         let behind : upto < e.1 = grind (arith, nat_tests, late) in
         subst (AreApart start) (sym (ap (λ (n : ℕ). put from n start (e ∷ es)) (end_before e es upto over behind)
-            ∙ put_before e es from upto start (omega (arith, behind), h.1, h.2)))
+        ∙ put_before e es from upto start (omega (arith, behind), h.1, h.2)))
         (omega arith, some, (omega (arith, behind), h.1, h.2))
 
 -- the start of what is put in
@@ -206,12 +206,12 @@ added_apart (e ∷ es) base from upto h low some = by (nat_le from e.0) refl (λ
         let under : e.0 < from = grind (arith, nat_tests, is) in
         let end : upto ≤ joined_end upto es = end_from es upto in
         subst (AreApart base) (sym ((λ i. put from (end_later e es upto (omega (arith, under, some)) i) (start_later e es from under i) (e ∷ es))
-            ∙ put_kept e es from (joined_end upto es) (joined_start from es) under (omega (arith, under, some, end)))) (h.0, h.1, rest under)
+        ∙ put_kept e es from (joined_end upto es) (joined_start from es) under (omega (arith, under, some, end)))) (h.0, h.1, rest under)
     by true is rest =
         let over : from ≤ e.0 = grind (arith, nat_tests, is) in
         subst (AreApart base) (sym (ap (λ (n : ℕ). put from (joined_end upto (e ∷ es)) n (e ∷ es)) (start_here e es from over)))
         (apart_low (put from (joined_end upto (e ∷ es)) (min e.1 from) (e ∷ es)) (min e.1 from) base (omega (arith, start, low))
-            (tail_apart (e ∷ es) from upto (min e.1 from) (omega arith, h.1, h.2) over (omega (arith, some))))
+        (tail_apart (e ∷ es) from upto (min e.1 from) (omega arith, h.1, h.2) over (omega (arith, some))))
 
 -- ---- the same as sets
 

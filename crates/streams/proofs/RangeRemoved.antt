@@ -1,13 +1,13 @@
 -- What is left once positions were removed.
 use Rattle.std.proofs.Common.{◌≡◌, ℕ, suc, ◌<◌, ◌≤◌, max, Bool, true, false, not, ◌&&◌, ◌||◌, nat_le, nat_lt, List, [], ◌∷◌, refl, sym, ap, ◌∙◌, subst, arith}
 use Rattle.std.proofs.lemmas.Bool.Decides.{nat_tests}
-use Rattle.std.specs.Prelude.{Option, None, Some, if◌then◌else◌}
+use Rattle.std.specs.Prelude.{Option, None, Some}
 use Rattle.std.specs.Ordering.{nat_cmp}
 use Rattle.std.specs.Cmp.{nat_cmp_is, nat_cmp_total}
 use Rattle.std.specs.declared.cmp.Ordering.{Ordering}
 use Rattle.std.specs.declared.cmp.Ordering.TheVariants.{Less, Equal, Greater}
 use Rattle.std.specs.Map.{remove_entry}
-use Rattle.std.specs.BTreeMap.{insert_entry, is_at}
+use Rattle.std.specs.BTreeMap.{is_at}
 use Rattle.std.specs.FinSet.{FinSet, contains, difference, same_set, contains-difference, nat_cmp-IsAntisymmetric}
 use Rattle.streams.specs.Ranges.{span}
 use Rattle.streams.specs.RangeEntries.{in_entries, held, AreApart, first_after, without, lower_by, with_lower, begun_at, cleared}
@@ -197,12 +197,12 @@ removed_apart (e ∷ es) base from upto h some = by (nat_le e.0 from) refl (nat_
     by true is c begun rest =
         let under : e.0 ≤ from = grind (arith, nat_tests, is) in
         subst (AreApart base) (sym (ap (cleared (suc from) upto) (lower_kept e es from under h.2)
-            ∙ cleared_kept e (with_lower from es) (suc from) upto (omega (arith, under)) (omega (arith, under, some)))) (h.0, h.1, rest)
+        ∙ cleared_kept e (with_lower from es) (suc from) upto (omega (arith, under)) (omega (arith, under, some)))) (h.0, h.1, rest)
     by false is true begun rest =
         let over : from < e.0 = grind (arith, nat_tests, is) in
         let low : e.1 < from = grind (arith, nat_tests, begun) in
         subst (AreApart base) (sym (ap (cleared (suc from) upto) (lower_cut e es from over low)
-            ∙ cleared_kept (from, e.1) (e ∷ es) (suc from) upto (omega arith) some))
+        ∙ cleared_kept (from, e.1) (e ∷ es) (suc from) upto (omega arith) some))
         (h.0, low, cleared_apart (e ∷ es) base (suc from) upto (suc from) h over (omega (arith, some)))
     by false is false begun rest =
         let over : from < e.0 = grind (arith, nat_tests, is) in

@@ -5,7 +5,7 @@
 //! to be allocated where the lowest positions are forgotten. `specs/Ranges` defines what sets of positions need beyond
 //! the words of finite sets; `specs/RangeEntries` says how one is kept.
 
-ghost use Rattle.std.specs.Prelude.{◌≡◌, ◌≤◌, ◌&&◌, true, not, nat_le, OnOk, OnErr};
+ghost use Rattle.std.specs.Prelude.{◌≡◌, ◌≤◌, OnOk, OnErr};
 ghost use Rattle.std.specs.FinSet as set;
 ghost use Rattle.streams.specs.Ranges.{covers, meets, span};
 ghost use Rattle.streams.specs.RangeEntries.{begun_at, first_after, first_between, first_from, joined_end, joined_start, with_lower, without};

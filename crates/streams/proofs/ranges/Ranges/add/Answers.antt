@@ -1,4 +1,4 @@
-use Rattle.std.proofs.Common.{◌≡◌, ◌≤◌, ◌∙◌, ap, sym, subst, arith, List, ℕ}
+use Rattle.std.proofs.Common.{◌≡◌, ◌∙◌, ap, sym, subst, arith}
 use Rattle.std.specs.FinSet.{FinSet, union}
 use Rattle.std.specs.Ordering.{nat_cmp}
 use Rattle.streams.specs.Ranges.{span}
