@@ -10,6 +10,9 @@ pub mod RunLemmas
 pub mod MarkLemmas
 pub mod RangeLemmas
 pub mod RangeEdits
+pub mod RangeRemoved
+pub mod RangeAdded
+pub mod PieceLemmas
 pub mod MadeLemmas
 pub mod ReadLemmas
 pub mod Thens

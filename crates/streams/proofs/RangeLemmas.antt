@@ -1,8 +1,8 @@
 -- Sets of positions, and what is found among the ranges that keep one.
-use Rattle.std.proofs.Common.{◌≡◌, ℕ, zero, suc, ◌+◌, ◌-◌, ◌<◌, ◌≤◌, max, Bool, true, false, not, ◌&&◌, ◌||◌, nat_le, nat_lt, nat_eq, List, [], ◌∷◌, refl, sym, ap, ◌∙◌, subst, arith}
+use Rattle.std.proofs.Common.{◌≡◌, ℕ, zero, suc, ◌+◌, ◌-◌, ◌<◌, ◌≤◌, max, Bool, true, false, ◌&&◌, ◌||◌, nat_le, nat_lt, nat_eq, List, [], ◌∷◌, refl, sym, ap, ◌∙◌, subst, arith}
 use Rattle.std.proofs.lemmas.Bool.Decides.{nat_tests}
 use Rattle.std.proofs.lemmas.Option.{none-some, same_Some}
-use Rattle.std.specs.Prelude.{Option, None, Some, option_map, find, filter, if◌then◌else◌}
+use Rattle.std.specs.Prelude.{Option, None, Some, option_map, find, filter}
 use Rattle.std.specs.BTreeMap.Range.{entries_between, range_contains}
 use Rattle.std.specs.declared.ops.Bound.TheVariants.{Included, Excluded, Unbounded}
 use Rattle.std.specs.List.{list_any, list_all, slice_get}
@@ -211,7 +211,7 @@ meets_is es from upto e h is some = by (nat_lt e.1 upto) refl (is_after es 0 fro
         let after : from < e.0 = first.after in
         let size : e.1 < e.0 = first.size in
         begun ∙ sym (one_meets (held es) from upto (max from e.1) (omega arith) high
-            (contains-held es (max from e.1) ∙ first.inside (max from e.1) (omega arith) (omega (arith, after, size))))
+        (contains-held es (max from e.1) ∙ first.inside (max from e.1) (omega arith) (omega (arith, after, size))))
     by false behind first =
         let above : upto ≤ e.1 = grind (arith, nat_tests, behind) in
         behind ∙ sym (none_meets (held es) from upto (λ p low high. contains-held es p ∙ first.before p low (omega (arith, high, above))))
@@ -235,7 +235,7 @@ covers_is es from upto e h is some = by (nat_le e.1 from) refl (nat_le upto e.0)
         let low : e.1 ≤ from = grind (arith, nat_tests, begun) in
         let high : upto ≤ e.0 = grind (arith, nat_tests, to) in
         rw (begun, to) (sym (each_covers (held es) from upto (λ p above under. contains-held es p
-            ∙ first.inside p (omega (arith, low, above)) (omega (arith, high, under)))))
+        ∙ first.inside p (omega (arith, low, above)) (omega (arith, high, under)))))
     by true begun false short first =
         let high : e.0 < upto = grind (arith, nat_tests, short) in
         let after : from < e.0 = first.after in
@@ -249,18 +249,18 @@ pub covers_empty : (s : FinSet nat_cmp) (from upto : ℕ) → upto ≤ from → 
 covers_empty s from upto none = each_covers s from upto (λ p low high. absurd (omega (arith, none, low, high)))
 
 -- the first entry that passes a test
-pub first_filtered : (t : ℕ × ℕ → Bool) (es : List (ℕ × ℕ)) → slice_get (filter t es) 0 ≡ find t es
+pub first_filtered : {X : Type 0} (t : X → Bool) (xs : List X) → slice_get (filter t xs) 0 ≡ find t xs
 first_filtered t [] = refl
-first_filtered t (e ∷ es) = by (t e) refl (first_filtered t es)
+first_filtered {X} t (x ∷ xs) = by (t x) refl (first_filtered t xs)
   where
-    by : (b : Bool) → t e ≡ b → slice_get (filter t es) 0 ≡ find t es → slice_get (filter t (e ∷ es)) 0 ≡ find t (e ∷ es)
+    by : (b : Bool) → t x ≡ b → slice_get (filter t xs) 0 ≡ find t xs → slice_get (filter t (x ∷ xs)) 0 ≡ find t (x ∷ xs)
     by true passes rest = rw passes refl
     by false fails rest = rw fails rest
 
 from_test : (p q : ℕ) → range_contains nat_cmp (Included p) Unbounded q ≡ nat_le p q
 from_test p q = grind (arith, nat_tests)
 
-after_test : (p q : ℕ) → range_contains nat_cmp (Excluded p) Unbounded q ≡ nat_lt p q
+pub after_test : (p q : ℕ) → range_contains nat_cmp (Excluded p) Unbounded q ≡ nat_lt p q
 after_test p q = grind (arith, nat_tests)
 
 between_test : (low high q : ℕ) → range_contains nat_cmp (Included low) (Excluded high) q ≡ (nat_le low q && nat_lt q high)

@@ -5,7 +5,7 @@
 //! to be allocated where the lowest positions are forgotten. `specs/Ranges` defines what sets of positions need beyond
 //! the words of finite sets; `specs/RangeEntries` says how one is kept.
 
-ghost use Rattle.std.specs.Prelude.{◌≡◌, ◌≤◌, ◌&&◌, true, not, nat_le, OnOk, OnErr};
+ghost use Rattle.std.specs.Prelude.{◌≡◌, ◌≤◌, OnOk, OnErr};
 ghost use Rattle.std.specs.FinSet as set;
 ghost use Rattle.streams.specs.Ranges.{covers, meets, span};
 ghost use Rattle.streams.specs.RangeEntries.{begun_at, first_after, first_between, first_from, joined_end, joined_start, with_lower, without};
@@ -110,9 +110,9 @@ impl Ranges {
         }
     }
 
-    /// Removes the positions below this one.
+    /// Removes the positions below this one, for which no memory is needed.
     pub fn forget_below(&mut self, position: u64)
-        ensures { self.new ≡ set.retain self.old (nat_le position) }
+        ensures { self.new ≡ set.difference self.old (span 0 position) }
     {
         drop_between(&mut self.starts, 0, position);
         self.starts.remove(&position);
