@@ -1,15 +1,17 @@
 //! What is kept of an endpoint.
 
 ghost use Rattle.std.specs.Prelude.{◌≡◌, OnOk};
+ghost use Rattle.std.specs.FinSet.{from_list};
+ghost use Rattle.streams.specs.Ranges.{covers};
 ghost use Rattle.spec_flights.specs.Flights.{broken_at, flight_after, goes_again, may_begin, may_go_again, unflown};
 ghost use Rattle.spec_flights.specs.Marks.{marks_after};
 
-use crate::marks::{is_fin_alone, making_length, marked_by, taken_by};
+use crate::marks::{is_fin_alone, making_length, marked_by, old_part, taken_by};
 use crate::recovering::{is_recovering, is_repairing, none_begun, recovery_after};
 use crate::sides::{are_selective, neither, sides_after};
 use case_forms::{OutOfMemory, SegmentPlan};
 use spec_duties::{Event, SynChange, View};
-use spec_flights::{Recovery, Sides};
+use spec_flights::{Recovery, Sides, Stretch};
 use std::alloc::Global;
 use std::marker::Model;
 use streams::Ranges;
@@ -31,11 +33,12 @@ fn goes_again(v: &View, plan: &SegmentPlan) -> bool
 }
 
 impl Model for Flight {
+    ghost use Rattle.std.specs.FinSet.{items};
     ghost use Rattle.spec_flights.specs.Flights.{Flight};
 
     ghost Value = { Flight };
 
-    ghost view = { λ a. record { sides = a.sides; recovery = a.recovery; marks = a.marks } };
+    ghost view = { λ a. record { sides = a.sides; recovery = a.recovery; marks = items a.marks } };
 }
 
 impl Flight {
@@ -50,11 +53,17 @@ impl Flight {
         }
     }
 
+    // Whether all positions of a stretch are marked.
+    fn is_marked(&self, stretch: Stretch) -> bool
+        ensures { result ≡ covers (from_list self.now.marks) stretch.from stretch.upto }
+    {
+        self.marks.covers(stretch.from, stretch.upto)
+    }
+
     fn may_go_again(&self, v: &View, plan: &SegmentPlan) -> bool
         ensures { result ≡ may_go_again v.now plan.now self.now }
     {
-        let upto = plan.pos.saturating_add(making_length(plan)).min(v.snd_max);
-        self.marks.covers(plan.pos, upto)
+        self.is_marked(old_part(v, plan))
             || are_selective(self.sides) && is_recovering(v, self.recovery)
     }
 

@@ -4,6 +4,7 @@ ghost use Rattle.std.specs.Prelude.{◌≡◌, None, nat_eq, unwrap_or, OnOk, If
 ghost use Rattle.std.specs.Map.{lookup};
 ghost use Rattle.indexmap.specs.IndexMap.{insert_entry};
 ghost use Rattle.spec_network.specs.Tables.{on, pick};
+ghost use Rattle.spec_flights.specs.Flights as spec;
 ghost use Rattle.spec_flights.specs.Flights.{broken_at, flight_after, flight_at, flights_after, flights_touched};
 ghost use Rattle.spec_flights.specs.Flights.{judges, refusal, start, unflown};
 
@@ -60,15 +61,26 @@ impl Tables {
     ) -> Result<(), OutOfMemory>
         ensures { OnOk result (self.new ≡ flights_touched after.now change self.old touched.now) }
     {
-        let table = match touched.host {
-            Host::Zero => &mut self.zero,
-            Host::One => &mut self.one,
-        };
-        note_in(table, alloc, change, touched, after)
+        match touched.host {
+            Host::Zero => note_in(&mut self.zero, alloc, change, touched, after),
+            Host::One => note_in(&mut self.one, alloc, change, touched, after),
+        }
     }
 }
 
-// Notes a step at an endpoint of this table. What is kept of it is taken out of the table, and put back.
+// Takes out what is kept of an endpoint, which is then to be put back.
+fn take_from(table: &mut Table<Flight>, alloc: Global, place: u32) -> Flight
+    ensures taken { result ≡ unwrap_or (lookup (nat_eq place) table.old.entries) unflown }
+    ensures put_back { (f : spec.Flight) → insert_entry nat_eq table.new.entries place f
+        ≡ insert_entry nat_eq table.old.entries place f }
+{
+    match table.replace(u64::from(place), Flight::new(alloc)) {
+        Some(flight) => flight,
+        None => Flight::new(alloc),
+    }
+}
+
+// Notes a step at an endpoint of this table.
 fn note_in(
     table: &mut Table<Flight>,
     alloc: Global,
@@ -80,13 +92,9 @@ fn note_in(
         (flight_after change touched.now.event touched.now.before after.now
         (unwrap_or (lookup (nat_eq touched.now.place) table.old.entries) unflown))) }
 {
-    let number = u64::from(touched.place);
-    let mut flight = match table.replace(number, Flight::new(alloc)) {
-        Some(flight) => flight,
-        None => Flight::new(alloc),
-    };
+    let mut flight = take_from(table, alloc, touched.place);
     flight.note(change, &touched.event, &touched.before, after)?;
-    table.insert(number, flight)
+    table.insert(u64::from(touched.place), flight)
 }
 
 /// What is kept of data in flight, by endpoints. It takes no room before a step of version 6.

@@ -2,9 +2,8 @@
 
 ghost use Rattle.std.specs.Prelude.{◌≡◌};
 ghost use Rattle.spec_tcp.specs.Makes.Payload.{making_length};
-ghost use Rattle.spec_duties.specs.Events.{acknowledges_more};
 ghost use Rattle.spec_duties.specs.Strict.{is_fin_alone};
-ghost use Rattle.spec_flights.specs.Marks.{built, marked_by, marked_by_event, no_positions, oldest_segment};
+ghost use Rattle.spec_flights.specs.Marks.{marked_by, marked_by_event, no_positions, old_part, oldest_segment};
 ghost use Rattle.spec_flights.specs.Marks.{opens_probed, outstanding, own_syn, taken_by};
 
 use case_forms::{SegmentPlan, Timer};
@@ -106,6 +105,16 @@ pub(crate) fn is_fin_alone(plan: &SegmentPlan, v: &View) -> bool
     plan.flags.fin && plan.len == 0 && plan.pos < v.snd_max
 }
 
+/// The positions of a segment that were sent before.
+pub(crate) fn old_part(v: &View, plan: &SegmentPlan) -> Stretch
+    ensures { result ≡ old_part v.now plan.now }
+{
+    Stretch {
+        from: plan.pos,
+        upto: plan.pos.saturating_add(making_length(plan)).min(v.snd_max),
+    }
+}
+
 /// From which positions a step takes the mark.
 pub(crate) fn taken_by(event: &Event, before: &View) -> Stretch
     ensures { result ≡ taken_by event.now before.now }
@@ -113,11 +122,9 @@ pub(crate) fn taken_by(event: &Event, before: &View) -> Stretch
     match event {
         Event::Builds(plan) => {
             if is_fin_alone(plan, before) {
-                return no_positions();
-            }
-            Stretch {
-                from: plan.pos,
-                upto: plan.pos.saturating_add(making_length(plan)),
+                no_positions()
+            } else {
+                old_part(before, plan)
             }
         }
         Event::Opens

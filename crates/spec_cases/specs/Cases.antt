@@ -2,18 +2,21 @@
 use Rattle.std.specs.Prelude.{◌≡◌, ℕ, suc, nat_eq, Bool, true, if◌then◌else◌, List, [], ◌∷◌, ◌++◌, map, Option}
 use Rattle.std.specs.Prelude.{None, Some}
 use Rattle.std.specs.Option.{option_map_or}
+use Rattle.case_forms.specs.declared.calls.Host.{Host}
 use Rattle.case_forms.specs.declared.trace.Header.{Header}
 use Rattle.case_forms.specs.Versions.{says_sender}
 use Rattle.verdict.specs.declared.rule.Rule.{Rule}
 use Rattle.verdict.specs.Rules.{first_broken, rule_number}
-use Rattle.spec_network.specs.Hosts.{Stamped, Step, World}
+use Rattle.spec_network.specs.Hosts as network
+use Rattle.spec_network.specs.Hosts.{HostStep, Stamped, Step, World}
 use Rattle.spec_network.specs.HostRules.{step_rules}
-use Rattle.spec_network.specs.HostSteps as network
+use Rattle.spec_network.specs.HostSteps as steps
 use Rattle.spec_network.specs.Tables.{on}
 use Rattle.spec_tcp.specs.Forgetting as forgetting
 use Rattle.spec_tcp.specs.Machine.{tcp, tcp_shape}
 use Rattle.spec_duties.specs.Answering.{waits_after}
-use Rattle.spec_duties.specs.Observations.{Observation, observe, view_in}
+use Rattle.spec_duties.specs.Observations.{observe, view_in}
+use Rattle.spec_duties.specs.declared.observations.Observation.{Observation}
 use Rattle.spec_duties.specs.Watching as watching
 use Rattle.spec_duties.specs.Watching.{Duties, duty_rules, duties_after}
 use Rattle.spec_duties.specs.End as end
@@ -33,7 +36,7 @@ pub record Watched : Type 0 where
   pub steps : ℕ
 
 abbrev pub first_known : Header → Known
-first_known h = record { model = network.start (tcp h); flights = flights.start; duties = watching.start }
+first_known h = record { model = steps.start (tcp h); flights = flights.start; duties = watching.start }
 
 abbrev pub start : Header → Watched
 start h = record { header = h; world = first_known h; steps = 0 }
@@ -69,10 +72,21 @@ abbrev pub with_refusal : Option Rule → List (Rule × Bool) → List (Rule × 
 with_refusal None rules = rules
 with_refusal (Some rule) rules = map (with_broken rule) rules
 
--- the rules of the model at a step; what is kept of data in flight may break one of them, too
+-- the rule that a step breaks by what is kept of data in flight; only to build a segment, or to begin fast recovery, can
+abbrev pub refused_at : Header → (moment : ℕ) → Known → Host → HostStep tcp_shape → Option Rule
+refused_at h moment k host (network.Makes m) =
+    refusal h k.flights (observe h moment k.model (network.At host (network.Makes m)))
+refused_at h moment k host (network.Does x) =
+    refusal h k.flights (observe h moment k.model (network.At host (network.Does x)))
+refused_at h moment k host d = None
+
+abbrev pub refused_by : Header → (moment : ℕ) → Known → Step tcp_shape → Option Rule
+refused_by h moment k (network.At host d) = refused_at h moment k host d
+refused_by h moment k step = None
+
+-- the rules of the model at a step, with that rule
 abbrev pub model_rules : Header → (moment : ℕ) → Known → Step tcp_shape → List (Rule × Bool)
-model_rules h moment k step =
-    with_refusal (refusal h k.flights (observe h moment k.model step)) (step_rules (tcp h) moment k.model step)
+model_rules h moment k step = with_refusal (refused_by h moment k step) (step_rules (tcp h) moment k.model step)
 
 -- the rules of a step: those of the model, then those of duties
 abbrev pub case_rules : Header → (moment : ℕ) → Known → Step tcp_shape → List (Rule × Bool)
@@ -85,10 +99,10 @@ flown h w s fs = flights_after h (view_in w s.touched) s fs
 -- what is known after it
 abbrev pub known_after : Header → (moment : ℕ) → Known → Step tcp_shape → Known
 known_after h moment k step = record {
-  model = network.after (tcp h) moment k.model step;
-  flights = flown h (network.after (tcp h) moment k.model step) (observe h moment k.model step) k.flights;
+  model = steps.after (tcp h) moment k.model step;
+  flights = flown h (steps.after (tcp h) moment k.model step) (observe h moment k.model step) k.flights;
   duties =
-      noted_by h moment (network.after (tcp h) moment k.model step) (observe h moment k.model step) k.duties;
+      noted_by h moment (steps.after (tcp h) moment k.model step) (observe h moment k.model step) k.duties;
 }
 
 abbrev pub known_after_all : Header → Known → List (Stamped tcp_shape) → Known
@@ -120,7 +134,7 @@ asked_after p moment asked = option_map_or (after p moment) asked p
 -- no duty refuses a step, nor does what is kept of data in flight
 pub record IsDutiful (h : Header) (moment : ℕ) (k : Known) (step : Step tcp_shape) : Type 0 where
   pub duties : first_broken (watch_rules h moment k step) ≡ None
-  pub flights : first_broken (model_rules h moment k step) ≡ None
+  pub flights : refused_by h moment k step ≡ None
 
 -- the same of each step of a run
 abbrev pub Dutiful : Header → Known → List (Stamped tcp_shape) → Type 0

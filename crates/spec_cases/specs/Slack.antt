@@ -5,10 +5,9 @@ use Rattle.case_forms.specs.declared.calls.Host.{Host}
 use Rattle.case_forms.specs.Versions.{says_sender}
 use Rattle.case_forms.specs.declared.trace.Header.{Header}
 use Rattle.verdict.specs.Rules.{first_broken}
-use Rattle.spec_network.specs.HostSteps.{Lawful}
 use Rattle.spec_network.specs.Hosts.{Stamped, World}
 use Rattle.spec_network.specs.Tables.{pick}
-use Rattle.spec_tcp.specs.Machine.{tcp, tcp_shape}
+use Rattle.spec_tcp.specs.Machine.{tcp_shape}
 use Rattle.spec_duties.specs.Credits.{is_credit_from}
 use Rattle.spec_duties.specs.Watching.{Duties}
 use Rattle.spec_flights.specs.Flights.{Flights}
@@ -66,5 +65,5 @@ SlackIsHardlyNoted =
 pub record NothingIsJudged : Type 0 where
   pub rules : (h : Header) (moment : ℕ) (d : Duties) (s : Observation) → h.slack ≡ None → judged_rules h moment d s ≡ []
   pub runs : (h : Header) (k : Known) (xs : List (Stamped tcp_shape)) → h.slack ≡ None → says_sender h.version ≡ false
-      → Lawful (tcp h) k.model xs → Dutiful h k xs
+      → Dutiful h k xs
   pub end : (h : Header) (moment : ℕ) (k : Known) → h.slack ≡ None → late_at_end h moment k ≡ None

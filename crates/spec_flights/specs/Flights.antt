@@ -1,10 +1,8 @@
 -- What is kept of data in flight, what it refuses, and what is kept after a step.
-use Rattle.std.specs.Prelude.{ℕ, ◌+◌, nat_eq, nat_lt, min, Bool, not, ◌&&◌, ◌||◌, if◌then◌else◌, List, []}
+use Rattle.std.specs.Prelude.{ℕ, nat_eq, nat_lt, Bool, not, ◌&&◌, ◌||◌, if◌then◌else◌, List, []}
 use Rattle.std.specs.Prelude.{Option, None, Some, unwrap_or}
-use Rattle.std.specs.FinSet as set
-use Rattle.std.specs.FinSet.{FinSet}
+use Rattle.std.specs.FinSet.{from_list}
 use Rattle.std.specs.Map.{lookup}
-use Rattle.std.specs.Ordering.{nat_cmp}
 use Rattle.indexmap.specs.IndexMap.{insert_entry}
 use Rattle.case_forms.specs.Versions.{says_sender}
 use Rattle.case_forms.specs.declared.calls.Host.{Host}
@@ -15,23 +13,27 @@ use Rattle.verdict.specs.declared.rule.Rule.TheVariants as rules
 use Rattle.streams.specs.Ranges.{covers}
 use Rattle.spec_network.specs.Tables.{Both, on, pick, with_host}
 use Rattle.spec_tcp.specs.Makes.Payload.{making_length}
-use Rattle.spec_duties.specs.Events.{Event, Builds, Recovers}
-use Rattle.spec_duties.specs.Observations.{Observation, SynChange, TouchedEndpoint}
+use Rattle.spec_duties.specs.declared.events.Event.{Event}
+use Rattle.spec_duties.specs.declared.events.Event.TheVariants.{Builds, Recovers}
+use Rattle.spec_duties.specs.declared.observations.Observation.{Observation}
+use Rattle.spec_duties.specs.declared.observations.SynChange.{SynChange}
+use Rattle.spec_duties.specs.declared.observations.TouchedEndpoint.{TouchedEndpoint}
 use Rattle.spec_duties.specs.Resent.{judges_repeats}
 use Rattle.spec_duties.specs.Strict.{is_fin_alone}
-use Rattle.spec_duties.specs.Views.{View}
-use Rattle.spec_flights.specs.Marks.{marks_after}
+use Rattle.spec_duties.specs.declared.views.View.{View}
+use Rattle.spec_flights.specs.Marks.{marks_after, old_part}
 use Rattle.spec_flights.specs.Recovering.{Recovery, is_recovering, is_repairing, none_begun, recovery_after}
 use Rattle.spec_flights.specs.Sides.{Sides, are_selective, neither, sides_after}
 
--- what is kept of an endpoint: what the two SYNs permit, from which loss it recovers, and which positions are marked
+-- what is kept of an endpoint: what the two SYNs permit, from which loss it recovers, and which positions are marked, in
+-- order
 pub record Flight : Type 0 where
   pub sides : Sides
   pub recovery : Recovery
-  pub marks : FinSet nat_cmp
+  pub marks : List ℕ
 
 abbrev pub unflown : Flight
-unflown = record { sides = neither; recovery = none_begun; marks = set.empty }
+unflown = record { sides = neither; recovery = none_begun; marks = [] }
 
 -- of all endpoints of both hosts, by their places
 abbrev pub Flights : Type 0
@@ -49,7 +51,7 @@ flight_at fs host place = unwrap_or (lookup (nat_eq place) (pick fs host)) unflo
 -- which data goes again, by what its peer told it; that choice isn't judged
 abbrev pub may_go_again : View → SegmentPlan → Flight → Bool
 may_go_again v m f =
-    covers f.marks m.pos (min (m.pos + making_length m) v.snd_max)
+    covers (from_list f.marks) (old_part v m).from (old_part v m).upto
     || are_selective f.sides && is_recovering v f.recovery
 
 -- it holds positions that were sent before, and isn't a FIN without bytes
@@ -81,7 +83,7 @@ refusal h fs s =
 abbrev pub repairs_plainly : View → Sides → Recovery → Bool
 repairs_plainly v sides r = not (are_selective sides) && is_repairing v r
 
-abbrev pub marks_in : SynChange → Event → (before after : View) → Sides → Recovery → FinSet nat_cmp → FinSet nat_cmp
+abbrev pub marks_in : SynChange → Event → (before after : View) → Sides → Recovery → (marks : List ℕ) → List ℕ
 marks_in change event before after sides r marks =
     marks_after change event before after (repairs_plainly after sides r) marks
 

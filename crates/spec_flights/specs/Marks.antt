@@ -1,15 +1,16 @@
 -- What may be sent again is marked, once for each reason; sending it takes the mark.
-use Rattle.std.specs.Prelude.{ℕ, ◌+◌, nat_le, nat_lt, min, Bool, true, ◌&&◌, if◌then◌else◌, is_some}
-use Rattle.std.specs.FinSet.{FinSet, difference, retain, union}
-use Rattle.std.specs.Ordering.{nat_cmp}
+use Rattle.std.specs.Prelude.{ℕ, ◌+◌, nat_lt, min, Bool, true, ◌&&◌, if◌then◌else◌, List, is_some}
+use Rattle.std.specs.FinSet.{difference, from_list, items, union}
 use Rattle.case_forms.specs.declared.steps.SegmentPlan.{SegmentPlan}
 use Rattle.case_forms.specs.declared.timer.Timer.TheVariants.{Rto, Persist}
 use Rattle.streams.specs.Ranges.{span}
 use Rattle.spec_tcp.specs.Makes.Payload.{making_length}
-use Rattle.spec_duties.specs.Events.{Event, Processes, Builds, Expires, Recovers, acknowledges_more}
-use Rattle.spec_duties.specs.Observations.{SynChange}
+use Rattle.spec_duties.specs.Events.{acknowledges_more}
+use Rattle.spec_duties.specs.declared.events.Event.{Event}
+use Rattle.spec_duties.specs.declared.events.Event.TheVariants.{Processes, Builds, Expires, Recovers}
+use Rattle.spec_duties.specs.declared.observations.SynChange.{SynChange}
 use Rattle.spec_duties.specs.Strict.{is_fin_alone}
-use Rattle.spec_duties.specs.Views.{View}
+use Rattle.spec_duties.specs.declared.views.View.{View}
 use Rattle.spec_duties.specs.declared.observations.SynChange.TheVariants as syn_change
 pub use Rattle.spec_flights.specs.declared.stretch.Stretch.{Stretch}
 
@@ -54,16 +55,19 @@ marked_by change event before after repairs = marked_by_event event before after
 
 -- ---- sending takes the mark; a FIN without bytes needs none, and takes none (RFC 9293, 3.10.4)
 
-abbrev pub built : View → SegmentPlan → Stretch
-built v m = if is_fin_alone m v then no_positions else record { from = m.pos; upto = m.pos + making_length m }
+-- the positions of a segment that were sent before
+abbrev pub old_part : View → SegmentPlan → Stretch
+old_part v m = record { from = m.pos; upto = min (m.pos + making_length m) v.snd_max }
 
 abbrev pub taken_by : Event → View → Stretch
-taken_by (Builds m) before = built before m
+taken_by (Builds m) before = if is_fin_alone m before then no_positions else old_part before m
 taken_by event before = no_positions
 
--- what is marked after a step; what is acknowledged is not
-abbrev pub marks_after : SynChange → Event → (before after : View) → (repairs : Bool) → FinSet nat_cmp → FinSet nat_cmp
+-- what is marked after a step, in order; what is acknowledged is not
+abbrev pub marks_after : SynChange → Event → (before after : View) → (repairs : Bool) → (marks : List ℕ) → List ℕ
 marks_after change event before after repairs marks =
     let taken : Stretch = taken_by event before in
     let marked : Stretch = marked_by change event before after repairs in
-    retain (union (difference marks (span taken.from taken.upto)) (span marked.from marked.upto)) (nat_le after.snd_una)
+    items
+    (difference (union (difference (from_list marks) (span taken.from taken.upto)) (span marked.from marked.upto))
+    (span 0 after.snd_una))

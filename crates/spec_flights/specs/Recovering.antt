@@ -2,8 +2,9 @@
 -- duplicate acknowledgments (RFC 5681, 3.2; RFC 6582, 3.2, `recover`).
 use Rattle.std.specs.Prelude.{ℕ, nat_le, nat_lt, Bool, true, false, ◌&&◌, if◌then◌else◌}
 use Rattle.case_forms.specs.declared.timer.Timer.TheVariants.{Rto}
-use Rattle.spec_duties.specs.Events.{Event, Expires, Recovers}
-use Rattle.spec_duties.specs.Views.{View}
+use Rattle.spec_duties.specs.declared.events.Event.{Event}
+use Rattle.spec_duties.specs.declared.events.Event.TheVariants.{Expires, Recovers}
+use Rattle.spec_duties.specs.declared.views.View.{View}
 pub use Rattle.spec_flights.specs.declared.recovery.Recovery.{Recovery}
 
 abbrev pub none_begun : Recovery

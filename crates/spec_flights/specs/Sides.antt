@@ -1,6 +1,6 @@
 -- Which endpoints acknowledge selectively: those whose own SYN permitted it, and the SYN that they took (RFC 2018, 2).
 use Rattle.std.specs.Prelude.{Bool, false, ◌&&◌, ◌||◌}
-use Rattle.spec_duties.specs.Observations.{SynChange}
+use Rattle.spec_duties.specs.declared.observations.SynChange.{SynChange}
 use Rattle.spec_duties.specs.declared.observations.SynChange.TheVariants as syn_change
 pub use Rattle.spec_flights.specs.declared.sides.Sides.{Sides}
 

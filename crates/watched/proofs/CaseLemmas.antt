@@ -1,12 +1,13 @@
 -- A step of a case: the rules of the model and of duties, and the case after it.
-use Rattle.std.proofs.Common.{◌≡◌, ℕ, suc, Bool, true, false, List, [], ◌++◌, Option, None, Some, Result, Ok, Err, refl, sym, ap, subst, ◌∙◌, append-nil, inl}
-use Rattle.std.proofs.Common.{inr}
-use Rattle.std.specs.Prelude.{OnOk, IfErr, IsTrue, if◌then◌else◌, not}
+use Rattle.std.proofs.Common.{◌≡◌, ℕ, suc, Bool, true, false, List, [], ◌++◌, Option, None, Some, Result, Ok, Err, refl, sym, ap, subst, ◌∙◌, inl}
+use Rattle.std.proofs.Common.{inr, ◌×◌, ◌⊎◌}
+use Rattle.std.specs.Prelude.{OnOk, IfErr, if◌then◌else◌, not, is_some, ◌&&◌}
 use Rattle.std.specs.Option.{option_map, option_map_or}
 use Rattle.case_forms.specs.Versions.{says_sender}
 use Rattle.case_forms.specs.TakenLines.{event_taken}
 use Rattle.case_forms.specs.declared.calls.Answer.{Answer}
 use Rattle.case_forms.specs.declared.calls.Call.{Call}
+use Rattle.case_forms.specs.declared.calls.Host.{Host}
 use Rattle.case_forms.specs.declared.named_line.Extras.{Extras}
 use Rattle.case_forms.specs.declared.named_line.Extras.TheVariants.{Bare, One, Two}
 use Rattle.case_forms.specs.declared.trace.Event.{Event}
@@ -18,13 +19,15 @@ use Rattle.verdict.specs.Rules.{first_broken}
 use Rattle.verdict.proofs.RuleLemmas.{none_both, first_broken-append_none, first_broken-append_some}
 use Rattle.spec_network.specs.HostRules.{step_rules}
 use Rattle.spec_network.specs.HostSteps as network
-use Rattle.spec_network.specs.Hosts.{Step, World}
+use Rattle.spec_network.specs.Hosts.{HostStep, Step, World, Does, Expires, Makes, Sends, Gets, Hears, Takes, Drops, Answers, Begin, Finish, Effect, At}
 use Rattle.spec_network.specs.Tables.{on}
 use Rattle.spec_tcp.specs.Forgetting as forgetting
 use Rattle.spec_tcp.specs.Machine.{tcp, tcp_shape}
 use Rattle.spec_tcp.specs.Steps.{line_step}
+use Rattle.spec_tcp_laws.proofs.Ascending.{rules_ascend}
 use Rattle.spec_tcp_laws.proofs.ForgetWorlds.{step_rules-forget, after-forgets, makes_permitted}
 use Rattle.endpoint_state.specs.Worlds.{Progress}
+use Rattle.endpoint_state.specs.Worlds as worlds
 use Rattle.endpoint_state.specs.declared.fault.StepFault.{StepFault}
 use Rattle.endpoint_state.specs.declared.fault.StepFault.TheVariants.{Broken, OutOfMemory}
 use Rattle.spec_step.specs.Asked as plain
@@ -33,15 +36,22 @@ use Rattle.spec_step.specs.Faults.{IfBroken}
 use Rattle.spec_duties.specs.Answering.{Waits, beginning, waits_after}
 use Rattle.spec_duties.specs.declared.answering.CallChange.{CallChange}
 use Rattle.spec_duties.specs.Observations.{observe, observe_turn, unseen, view_in}
+use Rattle.spec_duties.specs.Resent.{judges_repeats}
 use Rattle.spec_duties.specs.Watching.{Duties, duty_rules, duties_after}
-use Rattle.spec_cases.specs.Cases.{Known, Watched, after, asked_after, asked_rules, forget, case_rules, judged_rules}
-use Rattle.spec_cases.specs.Cases.{known_after, noted_by, watch_rules, with_waits}
+use Rattle.spec_flights.specs.Flights.{Flights, flights_after, judges, refusal}
+use Rattle.spec_cases.specs.Cases.{Known, Watched, after, asked_after, asked_rules, broken_by, forget, flown, case_rules, judged_rules}
+use Rattle.spec_cases.specs.Cases.{known_after, model_rules, noted_by, refused_at, refused_by, watch_rules, with_refusal, with_waits}
 use Rattle.spec_duties.specs.declared.answering.CallChange.TheVariants as call_change
 use Rattle.spec_duties.specs.declared.observations.Observation.{Observation}
 use Rattle.spec_duties.specs.declared.views.View.{View}
-use Rattle.watched.specs.Watched.{IsPlain, case_of, noted}
+use Rattle.watched.specs.Watched as watch
+use Rattle.watched.specs.Watched.{IsPlain, case_of, is_bare, known_of, least_broken}
 use Rattle.watched.proofs.ForgetLemmas.{observe-forget, view_in-forget}
+use Rattle.watched.proofs.RefusalLemmas.{not_refused, refused_among, refused_first}
 use Rattle.watched.proofs.WaitLemmas.{same_forget, waits_same}
+
+abbrev model_after : Progress → ℕ → Step tcp_shape → Progress
+model_after p moment step = worlds.after p moment step
 
 -- what may be discarded isn't noted
 pub noted-forget : (h : Header) (moment : ℕ) (w : World tcp_shape) (s : Observation) (d : Duties)
@@ -56,48 +66,100 @@ noted-forget h moment w s d =
     with slack v x =
         record (duties_after (says_sender h.version) slack v moment s d) { waits = if says_sender h.version then x else d.waits }
 
+-- nor is it seen by what is kept of data in flight
+flown-forget : (h : Header) (w : World tcp_shape) (s : Observation) (fs : Flights) → flown h (forgetting.forget w) s fs ≡ flown h w s fs
+flown-forget h w s fs = ap (λ v. flights_after h v s fs) (view_in-forget w s.touched)
+
 -- what the code notes is what is kept
-kept_is : (h : Header) (w : World tcp_shape) (d : Duties) (steps moment : ℕ) (step : Step tcp_shape)
-    → noted moment (observe h moment w step)
-    (record { header = h; world = record { model = forgetting.forget (network.after (tcp h) moment w step); duties = d }; steps = suc steps })
-    ≡ after (record { header = h; world = record { model = w; duties = d }; steps = steps }) moment step
-kept_is h w d steps moment step = ap wrap (noted-forget h moment (network.after (tcp h) moment w step) (observe h moment w step) d)
+kept_is : (h : Header) (w : World tcp_shape) (fs : Flights) (d : Duties) (steps moment : ℕ) (step : Step tcp_shape)
+    → case_of (record { header = h; world = forgetting.forget (network.after (tcp h) moment w step); steps = suc steps })
+    (flown h (forgetting.forget (network.after (tcp h) moment w step)) (observe h moment w step) fs)
+    (noted_by h moment (forgetting.forget (network.after (tcp h) moment w step)) (observe h moment w step) d)
+    ≡ after (record { header = h; world = record { model = w; flights = fs; duties = d }; steps = steps }) moment step
+kept_is h w fs d steps moment step =
+    ap (λ (gs : Flights). case_of now gs (noted_by h moment now.world (observe h moment w step) d))
+    (flown-forget h (network.after (tcp h) moment w step) (observe h moment w step) fs)
+    ∙ ap (case_of now (flown h (network.after (tcp h) moment w step) (observe h moment w step) fs))
+    (noted-forget h moment (network.after (tcp h) moment w step) (observe h moment w step) d)
   where
-    wrap : Duties → Watched
-    wrap d = record { header = h; world = record { model = forgetting.forget (network.after (tcp h) moment w step); duties = d }; steps = suc steps }
+    now : Progress
+    now = record { header = h; world = forgetting.forget (network.after (tcp h) moment w step); steps = suc steps }
+
+-- what may be discarded isn't read by a refusal
+refused-forget : (h : Header) (moment : ℕ) (k : Known) (step : Step tcp_shape) → refused_by h moment (forget k) step ≡ refused_by h moment k step
+refused-forget h moment k (Begin line t call) = refl
+refused-forget h moment k (Finish line t answer) = refl
+refused-forget h moment k (Effect t answer) = refl
+refused-forget h moment k (At host d) = at d
+  where
+    seen : (d : HostStep tcp_shape)
+        → refusal h k.flights (observe h moment (forgetting.forget k.model) (At host d)) ≡ refusal h k.flights (observe h moment k.model (At host d))
+    seen d = ap (λ (s : Observation). refusal h k.flights s) (observe-forget h moment k.model (At host d))
+
+    at : (d : HostStep tcp_shape) → refused_at h moment (forget k) host d ≡ refused_at h moment k host d
+    at (Makes m) = seen (Makes m)
+    at (Does x) = seen (Does x)
+    at (Expires line x) = refl
+    at (Sends line number wire) = refl
+    at (Gets line copied wire) = refl
+    at (Hears line wire) = refl
+    at (Takes line how) = refl
+    at (Drops line) = refl
+    at (Answers line) = refl
 
 -- the rules may be asked of what is kept
 pub rules-forget : (h : Header) (moment : ℕ) (k : Known) (step : Step tcp_shape) → case_rules h moment (forget k) step ≡ case_rules h moment k step
 rules-forget h moment k step =
-    ap (λ (rs : List (Rule × Bool)). rs ++ watch_rules h moment (forget k) step) (step_rules-forget h moment k.model step)
-    ∙ ap (λ (s : Observation). step_rules (tcp h) moment k.model step ++ judged_rules h moment k.duties s) (observe-forget h moment k.model step)
+    ap (λ (o : Option Rule). with_refusal o (step_rules (tcp h) moment (forgetting.forget k.model) step) ++ watch_rules h moment (forget k) step)
+    (refused-forget h moment k step)
+    ∙ ap (λ (rs : List (Rule × Bool)). with_refusal (refused_by h moment k step) rs ++ watch_rules h moment (forget k) step)
+    (step_rules-forget h moment k.model step)
+    ∙ ap (λ (s : Observation). model_rules h moment k step ++ judged_rules h moment k.duties s) (observe-forget h moment k.model step)
+
+-- if no rule is broken, nothing is refused, and the model permits the step
+pub not_refused_by : (h : Header) (moment : ℕ) (k : Known) (step : Step tcp_shape) → first_broken (model_rules h moment k step) ≡ None
+    → refused_by h moment k step ≡ None
+not_refused_by h moment k step none =
+    not_refused (refused_by h moment k step) (step_rules (tcp h) moment k.model step) (refused_among h moment k step) none
+
+pub permitted_by : (h : Header) (moment : ℕ) (k : Known) (step : Step tcp_shape) → first_broken (model_rules h moment k step) ≡ None
+    → first_broken (step_rules (tcp h) moment k.model step) ≡ None
+permitted_by h moment k step none =
+    subst (λ (o : Option Rule). first_broken (with_refusal o (step_rules (tcp h) moment k.model step)) ≡ None)
+    (not_refused_by h moment k step none) none
+
+pub fine_by : (h : Header) (moment : ℕ) (k : Known) (step : Step tcp_shape) → refused_by h moment k step ≡ None
+    → first_broken (step_rules (tcp h) moment k.model step) ≡ None → first_broken (model_rules h moment k step) ≡ None
+fine_by h moment k step none may =
+    ap (λ (o : Option Rule). first_broken (with_refusal o (step_rules (tcp h) moment k.model step))) none ∙ may
 
 -- and what is kept leads to what is kept
 pub known-forgets : (h : Header) (moment : ℕ) (k : Known) (step : Step tcp_shape) → first_broken (case_rules h moment k step) ≡ None
     → forget (known_after h moment (forget k) step) ≡ forget (known_after h moment k step)
 known-forgets h moment k step none =
-    let permitted = (none_both (step_rules (tcp h) moment k.model step) (watch_rules h moment k step) none).0 in
+    let permitted = permitted_by h moment k step (none_both (model_rules h moment k step) (watch_rules h moment k step) none).0 in
     let world = after-forgets h moment k.model step (makes_permitted h moment k.model step permitted) in
     let was = network.after (tcp h) moment (forget k).model step in
     let is = network.after (tcp h) moment k.model step in
-    ap (λ (w : World tcp_shape). pair w (noted_by h moment was (observe h moment (forget k).model step) k.duties)) world
-    ∙ ap (λ (s : Observation). pair (forgetting.forget is) (noted_by h moment was s k.duties)) (observe-forget h moment k.model step)
-    ∙ ap (pair (forgetting.forget is)) (
-    sym (noted-forget h moment was (observe h moment k.model step) k.duties)
-    ∙ ap (λ (w : World tcp_shape). noted_by h moment w (observe h moment k.model step) k.duties) world
-    ∙ noted-forget h moment is (observe h moment k.model step) k.duties)
+    ap (λ (w : World tcp_shape). all w was (observe h moment (forget k).model step)) world
+    ∙ ap (λ (s : Observation). all (forgetting.forget is) was s) (observe-forget h moment k.model step)
+    ∙ ap (λ (gs : Flights). triple gs (noted_by h moment was now k.duties))
+    (sym (flown-forget h was now k.flights) ∙ ap (λ (w : World tcp_shape). flown h w now k.flights) world ∙ flown-forget h is now k.flights)
+    ∙ ap (triple (flown h is now k.flights)) (
+    sym (noted-forget h moment was now k.duties)
+    ∙ ap (λ (w : World tcp_shape). noted_by h moment w now k.duties) world
+    ∙ noted-forget h moment is now k.duties)
   where
-    pair : World tcp_shape → Duties → Known
-    pair w d = record { model = w; duties = d }
+    now : Observation
+    now = observe h moment k.model step
 
--- what a fault of the model says of a step of a case
-pub model_breaks_asked : (h : Header) (moment : ℕ) (k : Known) (steps : ℕ) (fault : StepFault) (asked : Option (Step tcp_shape))
-    → IfBroken fault (λ rule. first_broken (plain.asked_rules (record { header = h; world = k.model; steps = steps }) moment asked) ≡ Some rule)
-    → IfBroken fault (λ rule. first_broken (asked_rules (record { header = h; world = k; steps = steps }) moment asked) ≡ Some rule)
-model_breaks_asked h moment k steps (Broken rule) None e = e
-model_breaks_asked h moment k steps (Broken rule) (Some step) e =
-    first_broken-append_some (step_rules (tcp h) moment k.model step) (watch_rules h moment k step) rule e
-model_breaks_asked h moment k steps OutOfMemory asked e = tt
+    all : (kept was : World tcp_shape) → Observation → Known
+    all w was s = record { model = w; flights = flown h was s k.flights; duties = noted_by h moment was s k.duties }
+
+    triple : Flights → Duties → Known
+    triple gs d = record { model = forgetting.forget (network.after (tcp h) moment k.model step); flights = gs; duties = d }
+
+-- ---- a step that is judged
 
 -- what a fault of duties says
 second_breaks : (fault : StepFault) (xs ys : List (Rule × Bool)) (o : Option Rule) → first_broken xs ≡ None → o ≡ first_broken ys
@@ -115,6 +177,94 @@ duty_admits : {A : Type 0} (r : Result A StepFault) (xs ys : List (Rule × Bool)
 duty_admits (Ok x) xs ys o none is e = first_broken-append_none xs ys none ∙ (sym is ∙ e)
 duty_admits (Err fault) xs ys o none is e = tt
 
+-- what was done, if the step isn't refused
+pub done_is : {A : Type 0} (refusal : Option Rule) (done answered : Result A StepFault) (x : A) → answered ≡ watch.with_refusal refusal done
+    → answered ≡ Ok x → (refusal ≡ None) × (done ≡ Ok x)
+done_is None done answered x is ok = (refl, sym is ∙ ok)
+done_is (Some rule) done answered x is ok = let clash : watch.with_refusal (Some rule) done ≡ Ok x = sym is ∙ ok in absurd cc
+
+-- a step of the model, and what was judged of it
+module _ (p : Progress) (fs : Flights) (d : Duties) (moment : ℕ) (step : Step tcp_shape) where
+  abbrev known : Known
+  known = known_of p fs d
+
+  abbrev model : List (Rule × Bool)
+  model = step_rules (tcp p.header) moment p.world step
+
+  abbrev seen : Observation
+  seen = observe p.header moment p.world step
+
+  -- what was judged: the rules of duties at what they watch of that step
+  judged_later : (u : Progress) (s : Observation) → u ≡ model_after p moment step → s ≡ seen
+      → first_broken (judged_rules u.header moment d s) ≡ first_broken (watch_rules p.header moment known step)
+  judged_later u s is sees =
+      ap (λ (u : Progress). first_broken (judged_rules u.header moment d s)) is
+      ∙ ap (λ (s : Observation). first_broken (judged_rules p.header moment d s)) sees
+
+  pub step_admits : {A : Type 0} (r : Result A StepFault) (u : Progress) (s : Observation) (refusal : Option Rule)
+      → refusal ≡ refused_by p.header moment known step → refusal ≡ None → first_broken model ≡ None → u ≡ model_after p moment step → s ≡ seen
+      → OnOk r (first_broken (judged_rules u.header moment d s) ≡ None) → OnOk r (broken_by (case_of p fs d) moment step ≡ None)
+  step_admits r u s refusal refused none may is sees e =
+      duty_admits r (model_rules p.header moment known step) (watch_rules p.header moment known step)
+      (first_broken (judged_rules u.header moment d s)) (fine_by p.header moment known step (sym refused ∙ none) may) (judged_later u s is sees) e
+
+  pub step_breaks : {A : Type 0} (r : Result A StepFault) (u : Progress) (s : Observation) (refusal : Option Rule)
+      → refusal ≡ refused_by p.header moment known step → refusal ≡ None → first_broken model ≡ None → u ≡ model_after p moment step → s ≡ seen
+      → IfErr r (λ fault. IfBroken fault (λ rule. first_broken (judged_rules u.header moment d s) ≡ Some rule))
+      → IfErr r (λ fault. IfBroken fault (λ rule. broken_by (case_of p fs d) moment step ≡ Some rule))
+  step_breaks r u s refusal refused none may is sees e =
+      duty_breaks r (model_rules p.header moment known step) (watch_rules p.header moment known step)
+      (first_broken (judged_rules u.header moment d s)) (fine_by p.header moment known step (sym refused ∙ none) may) (judged_later u s is sees) e
+
+  -- the case after a step that was noted
+  pub step_is : {A : Type 0} (r : Result A StepFault) (u : Progress) (s : Observation) (gs : Flights) (e : Duties)
+      → u ≡ model_after p moment step → s ≡ seen → gs ≡ flown u.header u.world s fs
+      → OnOk r (e ≡ noted_by u.header moment u.world s d) → OnOk r (case_of u gs e ≡ after (case_of p fs d) moment step)
+  step_is (Err fault) u s gs e is sees flies notes = tt
+  step_is (Ok x) u s gs e is sees flies notes =
+      ap (λ (gs : Flights). case_of u gs e) flies
+      ∙ ap (case_of u (flown u.header u.world s fs)) notes
+      ∙ ap (λ (s : Observation). case_of u (flown u.header u.world s fs) (noted_by u.header moment u.world s d)) sees
+      ∙ ap (λ (u : Progress). case_of u (flown u.header u.world seen fs) (noted_by u.header moment u.world seen d)) is
+      ∙ kept_is p.header p.world fs d p.steps moment step
+
+  -- what a fault of the model says of the case, if what is kept of data in flight may refuse the step
+  model_breaks : {A : Type 0} (refusal : Option Rule) (done : Result A StepFault) → refusal ≡ refused_by p.header moment known step
+      → OnOk done (first_broken model ≡ None)
+      → IfErr done (λ fault. IfBroken fault (λ rule. first_broken model ≡ Some rule))
+      → IfErr (watch.with_refusal refusal done) (λ fault. IfBroken fault (λ rule. first_broken (model_rules p.header moment known step) ≡ Some rule))
+  model_breaks None (Ok x) refused may breaks = tt
+  model_breaks None (Err OutOfMemory) refused may breaks = tt
+  model_breaks None (Err (Broken rule)) refused may breaks =
+      ap (λ (o : Option Rule). first_broken (with_refusal o model)) (sym refused) ∙ breaks
+  model_breaks (Some rule) (Ok x) refused may breaks = first_is rule refused ∙ ap (least_broken (Some rule)) may
+  model_breaks (Some rule) (Err OutOfMemory) refused may breaks = tt
+  model_breaks (Some rule) (Err (Broken other)) refused may breaks = first_is rule refused ∙ ap (least_broken (Some rule)) breaks
+
+  first_is : (rule : Rule) → Some rule ≡ refused_by p.header moment known step
+      → first_broken (model_rules p.header moment known step) ≡ least_broken (Some rule) (first_broken model)
+  first_is rule refused =
+      refused_first (refused_by p.header moment known step) 6 model (rules_ascend p.header moment p.world step) (refused_among p.header moment known step)
+      ∙ ap (λ (o : Option Rule). least_broken o (first_broken model)) (sym refused)
+
+  pub model_refuses : {A : Type 0} (refusal : Option Rule) (done answered : Result A StepFault) (fault : StepFault)
+      → refusal ≡ refused_by p.header moment known step
+      → OnOk done (first_broken model ≡ None)
+      → IfErr done (λ fault. IfBroken fault (λ rule. first_broken model ≡ Some rule))
+      → answered ≡ watch.with_refusal refusal done → answered ≡ Err fault
+      → IfBroken fault (λ rule. broken_by (case_of p fs d) moment step ≡ Some rule)
+  model_refuses refusal done answered fault refused may breaks is err =
+      whole fault
+      (subst (λ (r : Result _ StepFault). IfErr r (λ fault. IfBroken fault (λ rule. first_broken (model_rules p.header moment known step) ≡ Some rule)))
+      (sym is ∙ err) (model_breaks refusal done refused may breaks))
+    where
+      whole : (fault : StepFault) → IfBroken fault (λ rule. first_broken (model_rules p.header moment known step) ≡ Some rule)
+          → IfBroken fault (λ rule. broken_by (case_of p fs d) moment step ≡ Some rule)
+      whole OutOfMemory e = tt
+      whole (Broken rule) e = first_broken-append_some (model_rules p.header moment known step) (watch_rules p.header moment known step) rule e
+
+-- ---- in versions 1 to 5, without a slack or of a step that shows nothing
+
 -- nothing is broken if nothing is seen
 unseen_rules : (h : Header) (moment : ℕ) (d : Duties) → first_broken (judged_rules h moment d unseen) ≡ None
 unseen_rules h moment d = by h.slack
@@ -123,190 +273,138 @@ unseen_rules h moment d = by h.slack
     by None = refl
     by (Some slack) = refl
 
--- the rules of a step that there may be
-asked_list : (h : Header) (moment : ℕ) (k : Known) (steps : ℕ) (asked : Option (Step tcp_shape))
-    → first_broken (asked_rules (record { header = h; world = k; steps = steps }) moment asked)
-    ≡ first_broken (plain.asked_rules (record { header = h; world = k.model; steps = steps }) moment asked
-    ++ judged_rules h moment k.duties (option_map_or (observe h moment k.model) asked unseen))
-asked_list h moment k steps None = sym (unseen_rules h moment k.duties)
-asked_list h moment k steps (Some step) = refl
-
--- ---- of a step that shows nothing
-
-pub unseen_admits : {A : Type 0} (r : Result A StepFault) (p : Progress) (d : Duties) (moment : ℕ) (step : Step tcp_shape)
-    → observe p.header moment p.world step ≡ unseen
-    → OnOk r (first_broken (plain.asked_rules p moment (Some step)) ≡ None) → OnOk r (first_broken (asked_rules (case_of p d) moment (Some step)) ≡ None)
-unseen_admits (Ok x) p d moment step sees e =
-    first_broken-append_none (step_rules (tcp p.header) moment p.world step) (judged_rules p.header moment d (observe p.header moment p.world step)) e
-    ∙ (ap (λ (s : Observation). first_broken (judged_rules p.header moment d s)) sees ∙ unseen_rules p.header moment d)
-unseen_admits (Err fault) p d moment step sees e = tt
-
 nothing_noted : (o : Option ℕ) (strict : Bool) (moment : ℕ) (w : World tcp_shape) (d : Duties)
     → on o d (λ slack. with_waits strict moment w unseen (duties_after strict slack (view_in w unseen.touched) moment unseen d)) ≡ d
 nothing_noted None strict moment w d = refl
 nothing_noted (Some slack) true moment w d = refl
 nothing_noted (Some slack) false moment w d = refl
 
-pub unseen_is : {A : Type 0} (r : Result A StepFault) (p u : Progress) (d : Duties) (moment : ℕ) (step : Step tcp_shape)
-    → observe p.header moment p.world step ≡ unseen
-    → OnOk r (u ≡ plain.asked_after p moment (Some step)) → OnOk r (case_of u d ≡ asked_after (case_of p d) moment (Some step))
-unseen_is (Err e) p u d moment step sees is = tt
-unseen_is (Ok x) p u d moment step sees is =
-    ap (λ (u : Progress). case_of u d) is
-    ∙ ap wrap (sym (ap (λ (s : Observation). noted_by p.header moment now s d) sees ∙ nothing_noted p.header.slack (says_sender p.header.version) moment now d))
+-- nothing is refused before version 6, nor is anything kept of data in flight
+not_judging : (h : Header) → says_sender h.version ≡ false → judges h ≡ false
+not_judging h old = ap (λ (b : Bool). b && judges_repeats h.congestion) old
+
+pub refused_before : (h : Header) (moment : ℕ) (k : Known) (step : Step tcp_shape) → says_sender h.version ≡ false → refused_by h moment k step ≡ None
+refused_before h moment k (Begin line t call) old = refl
+refused_before h moment k (Finish line t answer) old = refl
+refused_before h moment k (Effect t answer) old = refl
+refused_before h moment k (At host d) old = at d
   where
-    now : World tcp_shape
-    now = network.after (tcp p.header) moment p.world step
+    at : (d : HostStep tcp_shape) → refused_at h moment k host d ≡ None
+    at (Makes m) = rw (not_judging h old) refl
+    at (Does x) = rw (not_judging h old) refl
+    at (Expires line x) = refl
+    at (Sends line number wire) = refl
+    at (Gets line copied wire) = refl
+    at (Hears line wire) = refl
+    at (Takes line how) = refl
+    at (Drops line) = refl
+    at (Answers line) = refl
 
-    wrap : Duties → Watched
-    wrap d = record { header = p.header; world = record { model = forgetting.forget now; duties = d }; steps = suc p.steps }
+pub flown_before : (h : Header) (w : World tcp_shape) (s : Observation) (fs : Flights) → says_sender h.version ≡ false → flown h w s fs ≡ fs
+flown_before h w s fs old = rw (old) refl
 
--- what was judged: the rules of duties at what they watch of that step
-abbrev pub IsJudged : Header → (moment : ℕ) → Known → Option (Step tcp_shape) → Option Rule → Type 0
-IsJudged h moment k asked o =
-    o ≡ first_broken (judged_rules h moment k.duties (option_map_or (observe h moment k.model) asked unseen))
+-- duties judge nothing of it
+abbrev NothingSeen : Header → Option (Step tcp_shape) → Type 0
+NothingSeen h asked = (h.slack ≡ None) ⊎ ((moment : ℕ) (w : World tcp_shape) → option_map_or (observe h moment w) asked unseen ≡ unseen)
 
-header_stays : (p : Progress) (moment : ℕ) (asked : Option (Step tcp_shape)) → (plain.asked_after p moment asked).header ≡ p.header
-header_stays p moment None = refl
-header_stays p moment (Some step) = refl
+nothing_judged : (h : Header) (moment : ℕ) (w : World tcp_shape) (d : Duties) (step : Step tcp_shape) → NothingSeen h (Some step)
+    → first_broken (judged_rules h moment d (observe h moment w step)) ≡ None
+nothing_judged h moment w d step (inl any) =
+    ap (λ (o : Option ℕ). first_broken (on o [] (λ slack. duty_rules h slack moment d (observe h moment w step)))) any
+nothing_judged h moment w d step (inr sees) =
+    ap (λ (s : Observation). first_broken (judged_rules h moment d s)) (sees moment w) ∙ unseen_rules h moment d
 
--- it may be judged once the model did the step
-pub judged_later : (p u : Progress) (d : Duties) (moment : ℕ) (asked : Option (Step tcp_shape)) (s : Observation)
-    → u ≡ plain.asked_after p moment asked → s ≡ option_map_or (observe p.header moment p.world) asked unseen
-    → IsJudged p.header moment (record { model = p.world; duties = d }) asked (first_broken (judged_rules u.header moment d s))
-judged_later p u d moment asked s is sees =
-    ap (λ (h : Header). first_broken (judged_rules h moment d s)) (ap (λ (u : Progress). u.header) is ∙ header_stays p moment asked)
-    ∙ ap (λ (s : Observation). first_broken (judged_rules p.header moment d s)) sees
+nothing_kept : (h : Header) (moment : ℕ) (w now : World tcp_shape) (d : Duties) (step : Step tcp_shape) → NothingSeen h (Some step)
+    → noted_by h moment now (observe h moment w step) d ≡ d
+nothing_kept h moment w now d step (inl any) =
+    ap (λ (o : Option ℕ). on o d (λ slack. with_waits (says_sender h.version) moment now (observe h moment w step)
+    (duties_after (says_sender h.version) slack (view_in now (observe h moment w step).touched) moment (observe h moment w step) d))) any
+nothing_kept h moment w now d step (inr sees) =
+    ap (λ (s : Observation). noted_by h moment now s d) (sees moment w) ∙ nothing_noted h.slack (says_sender h.version) moment now d
 
-pub asked_breaks : {A : Type 0} (r : Result A StepFault) (h : Header) (moment : ℕ) (k : Known) (steps : ℕ) (asked : Option (Step tcp_shape)) (o : Option Rule)
-    → first_broken (plain.asked_rules (record { header = h; world = k.model; steps = steps }) moment asked) ≡ None
-    → IsJudged h moment k asked o
-    → IfErr r (λ fault. IfBroken fault (λ rule. o ≡ Some rule))
-    → IfErr r (λ fault. IfBroken fault (λ rule. first_broken (asked_rules (record { header = h; world = k; steps = steps }) moment asked) ≡ Some rule))
-asked_breaks r h moment k steps asked o none is e =
-    subst (λ (b : Option Rule). IfErr r (λ fault. IfBroken fault (λ rule. b ≡ Some rule))) (sym (asked_list h moment k steps asked))
-    (duty_breaks r (plain.asked_rules (record { header = h; world = k.model; steps = steps }) moment asked)
-    (judged_rules h moment k.duties (option_map_or (observe h moment k.model) asked unseen)) o none is e)
-
-pub asked_admits : {A : Type 0} (r : Result A StepFault) (h : Header) (moment : ℕ) (k : Known) (steps : ℕ) (asked : Option (Step tcp_shape)) (o : Option Rule)
-    → first_broken (plain.asked_rules (record { header = h; world = k.model; steps = steps }) moment asked) ≡ None
-    → IsJudged h moment k asked o
-    → OnOk r (o ≡ None) → OnOk r (first_broken (asked_rules (record { header = h; world = k; steps = steps }) moment asked) ≡ None)
-asked_admits r h moment k steps asked o none is e =
-    subst (λ (b : Option Rule). OnOk r (b ≡ None)) (sym (asked_list h moment k steps asked))
-    (duty_admits r (plain.asked_rules (record { header = h; world = k.model; steps = steps }) moment asked)
-    (judged_rules h moment k.duties (option_map_or (observe h moment k.model) asked unseen)) o none is e)
-
--- the case after a step that duties noted
-pub note_is : {A : Type 0} (r : Result A StepFault) (n : Watched) (p u : Progress) (d : Duties) (moment : ℕ) (asked : Option (Step tcp_shape)) (s : Observation)
-    → u ≡ plain.asked_after p moment asked → s ≡ option_map_or (observe p.header moment p.world) asked unseen
-    → OnOk r (n ≡ noted moment s (case_of u d)) → OnOk r (n ≡ asked_after (case_of p d) moment asked)
-note_is (Err e) n p u d moment asked s is sees said = tt
-note_is (Ok x) n p u d moment None s is sees said =
-    said ∙ ap (λ (s : Observation). noted moment s (case_of u d)) sees
-    ∙ ap (λ (u : Progress). noted moment unseen (case_of u d)) is
-    ∙ ap wrap (nothing_noted p.header.slack (says_sender p.header.version) moment p.world d)
+first_broken-then_none : (xs ys : List (Rule × Bool)) → first_broken ys ≡ None → first_broken (xs ++ ys) ≡ first_broken xs
+first_broken-then_none xs ys none = by (first_broken xs) refl
   where
-    wrap : Duties → Watched
-    wrap d = record { header = p.header; world = record { model = p.world; duties = d }; steps = p.steps }
-note_is (Ok x) n p u d moment (Some step) s is sees said =
-    said ∙ ap (λ (s : Observation). noted moment s (case_of u d)) sees
-    ∙ ap (λ (u : Progress). noted moment (observe p.header moment p.world step) (case_of u d)) is
-    ∙ kept_is p.header p.world d p.steps moment step
+    by : (o : Option Rule) → first_broken xs ≡ o → first_broken (xs ++ ys) ≡ first_broken xs
+    by None is = first_broken-append_none xs ys is ∙ none ∙ sym is
+    by (Some rule) is = first_broken-append_some xs ys rule is ∙ sym is
 
--- ---- without a slack
-
--- the rules are those of the model
-plain_rules : (p : Progress) (d : Duties) (moment : ℕ) (asked : Option (Step tcp_shape)) → p.header.slack ≡ None
-    → first_broken (asked_rules (case_of p d) moment asked) ≡ first_broken (plain.asked_rules p moment asked)
-plain_rules p d moment None any = refl
-plain_rules p d moment (Some step) any =
+plain_rules : (p : Progress) (fs : Flights) (d : Duties) (moment : ℕ) (asked : Option (Step tcp_shape)) → IsPlain p.header asked
+    → first_broken (asked_rules (case_of p fs d) moment asked) ≡ first_broken (plain.asked_rules p moment asked)
+plain_rules p fs d moment None is = refl
+plain_rules p fs d moment (Some step) is =
     let model = step_rules (tcp p.header) moment p.world step in
-    ap (λ o. first_broken (model ++ on o [] (λ slack. duty_rules p.header slack moment d (observe p.header moment p.world step)))) any
-    ∙ ap first_broken (append-nil model)
+    ap (λ (o : Option Rule). first_broken (with_refusal o model ++ watch_rules p.header moment (known_of p fs d) step))
+    (refused_before p.header moment (known_of p fs d) step is.0)
+    ∙ first_broken-then_none model (watch_rules p.header moment (known_of p fs d) step) (nothing_judged p.header moment p.world d step is.1)
 
-pub plain_admits : {A : Type 0} (r : Result A StepFault) (p : Progress) (d : Duties) (moment : ℕ) (asked : Option (Step tcp_shape)) → p.header.slack ≡ None
-    → OnOk r (first_broken (plain.asked_rules p moment asked) ≡ None) → OnOk r (first_broken (asked_rules (case_of p d) moment asked) ≡ None)
-plain_admits (Ok x) p d moment asked any e = plain_rules p d moment asked any ∙ e
-plain_admits (Err fault) p d moment asked any e = tt
+pub plain_line_admits : {A : Type 0} (r : Result A StepFault) (p : Progress) (fs : Flights) (d : Duties) (moment : ℕ) (asked : Option (Step tcp_shape))
+    → IsPlain p.header asked
+    → OnOk r (first_broken (plain.asked_rules p moment asked) ≡ None) → OnOk r (first_broken (asked_rules (case_of p fs d) moment asked) ≡ None)
+plain_line_admits (Ok x) p fs d moment asked is e = plain_rules p fs d moment asked is ∙ e
+plain_line_admits (Err fault) p fs d moment asked is e = tt
 
-plain_fault : (fault : StepFault) (p : Progress) (d : Duties) (moment : ℕ) (asked : Option (Step tcp_shape)) → p.header.slack ≡ None
+plain_fault : (fault : StepFault) (p : Progress) (fs : Flights) (d : Duties) (moment : ℕ) (asked : Option (Step tcp_shape)) → IsPlain p.header asked
     → IfBroken fault (λ rule. first_broken (plain.asked_rules p moment asked) ≡ Some rule)
-    → IfBroken fault (λ rule. first_broken (asked_rules (case_of p d) moment asked) ≡ Some rule)
-plain_fault (Broken rule) p d moment asked any e = plain_rules p d moment asked any ∙ e
-plain_fault OutOfMemory p d moment asked any e = tt
+    → IfBroken fault (λ rule. first_broken (asked_rules (case_of p fs d) moment asked) ≡ Some rule)
+plain_fault (Broken rule) p fs d moment asked is e = plain_rules p fs d moment asked is ∙ e
+plain_fault OutOfMemory p fs d moment asked is e = tt
 
-pub plain_breaks : {A : Type 0} (r : Result A StepFault) (p : Progress) (d : Duties) (moment : ℕ) (asked : Option (Step tcp_shape)) → p.header.slack ≡ None
+pub plain_line_breaks : {A : Type 0} (r : Result A StepFault) (p : Progress) (fs : Flights) (d : Duties) (moment : ℕ) (asked : Option (Step tcp_shape))
+    → IsPlain p.header asked
     → IfErr r (λ fault. IfBroken fault (λ rule. first_broken (plain.asked_rules p moment asked) ≡ Some rule))
-    → IfErr r (λ fault. IfBroken fault (λ rule. first_broken (asked_rules (case_of p d) moment asked) ≡ Some rule))
-plain_breaks (Ok x) p d moment asked any e = tt
-plain_breaks (Err fault) p d moment asked any e = plain_fault fault p d moment asked any e
+    → IfErr r (λ fault. IfBroken fault (λ rule. first_broken (asked_rules (case_of p fs d) moment asked) ≡ Some rule))
+plain_line_breaks (Ok x) p fs d moment asked is e = tt
+plain_line_breaks (Err fault) p fs d moment asked is e = plain_fault fault p fs d moment asked is e
 
--- and nothing is noted
-pub plain_is : {A : Type 0} (r : Result A StepFault) (p u : Progress) (d : Duties) (moment : ℕ) (asked : Option (Step tcp_shape)) → p.header.slack ≡ None
-    → OnOk r (u ≡ plain.asked_after p moment asked) → OnOk r (case_of u d ≡ asked_after (case_of p d) moment asked)
-plain_is (Err e) p u d moment asked any is = tt
-plain_is (Ok x) p u d moment None any is = ap (λ (u : Progress). case_of u d) is
-plain_is (Ok x) p u d moment (Some step) any is =
-    ap (λ (u : Progress). case_of u d) is
-    ∙ ap wrap (sym (ap (λ o. on o d (λ slack. with_waits (says_sender p.header.version) moment now (observe p.header moment p.world step)
-    (duties_after (says_sender p.header.version) slack (view_in now (observe p.header moment p.world step).touched) moment
-    (observe p.header moment p.world step) d))) any))
+pub plain_line_is : {A : Type 0} (r : Result A StepFault) (p u : Progress) (fs : Flights) (d : Duties) (moment : ℕ) (asked : Option (Step tcp_shape))
+    → IsPlain p.header asked
+    → OnOk r (u ≡ plain.asked_after p moment asked) → OnOk r (case_of u fs d ≡ asked_after (case_of p fs d) moment asked)
+plain_line_is (Err e) p u fs d moment asked plain is = tt
+plain_line_is (Ok x) p u fs d moment None plain is = ap (λ (u : Progress). case_of u fs d) is
+plain_line_is (Ok x) p u fs d moment (Some step) plain is =
+    ap (λ (u : Progress). case_of u fs d) is
+    ∙ ap (λ (gs : Flights). case_of now gs d)
+    (sym (flown_before p.header (network.after (tcp p.header) moment p.world step) (observe p.header moment p.world step) fs plain.0))
+    ∙ ap (case_of now (flown p.header (network.after (tcp p.header) moment p.world step) (observe p.header moment p.world step) fs))
+    (sym (nothing_kept p.header moment p.world (network.after (tcp p.header) moment p.world step) d step plain.1))
   where
-    now : World tcp_shape
-    now = network.after (tcp p.header) moment p.world step
+    now : Progress
+    now = model_after p moment step
 
-    wrap : Duties → Watched
-    wrap d = record { header = p.header; world = record { model = forgetting.forget now; duties = d }; steps = suc p.steps }
-
--- ---- of a step of which duties judge nothing, if there is one
-
-pub plain_line_admits : {A : Type 0} (r : Result A StepFault) (p : Progress) (d : Duties) (moment : ℕ) (asked : Option (Step tcp_shape))
-    → IsPlain p.header asked
-    → OnOk r (first_broken (plain.asked_rules p moment asked) ≡ None) → OnOk r (first_broken (asked_rules (case_of p d) moment asked) ≡ None)
-plain_line_admits r p d moment asked (inl any) e = plain_admits r p d moment asked any e
-plain_line_admits r p d moment None (inr sees) e = e
-plain_line_admits r p d moment (Some step) (inr sees) e = unseen_admits r p d moment step (sees moment p.world) e
-
-pub plain_line_breaks : {A : Type 0} (r : Result A StepFault) (p : Progress) (d : Duties) (moment : ℕ) (asked : Option (Step tcp_shape))
-    → IfErr r (λ fault. IfBroken fault (λ rule. first_broken (plain.asked_rules p moment asked) ≡ Some rule))
-    → IfErr r (λ fault. IfBroken fault (λ rule. first_broken (asked_rules (case_of p d) moment asked) ≡ Some rule))
-plain_line_breaks (Ok x) p d moment asked e = tt
-plain_line_breaks (Err fault) p d moment asked e =
-    model_breaks_asked p.header moment (record { model = p.world; duties = d }) p.steps fault asked e
-
-pub plain_line_is : {A : Type 0} (r : Result A StepFault) (p u : Progress) (d : Duties) (moment : ℕ) (asked : Option (Step tcp_shape))
-    → IsPlain p.header asked
-    → OnOk r (u ≡ plain.asked_after p moment asked) → OnOk r (case_of u d ≡ asked_after (case_of p d) moment asked)
-plain_line_is r p u d moment asked (inl any) is = plain_is r p u d moment asked any is
-plain_line_is (Ok x) p u d moment None (inr sees) is = ap (λ (u : Progress). case_of u d) is
-plain_line_is (Err e) p u d moment None (inr sees) is = tt
-plain_line_is r p u d moment (Some step) (inr sees) is = unseen_is r p u d moment step (sees moment p.world) is
+-- a step that takes no line, if nothing is kept or judged
+pub bare_is_plain : (h : Header) (asked : Option (Step tcp_shape)) → is_bare h ≡ true → IsPlain h asked
+bare_is_plain h asked bare = by h.slack (says_sender h.version) bare
+  where
+    by : (o : Option ℕ) (strict : Bool) → (not (is_some o) && not strict) ≡ true
+        → (strict ≡ false) × ((o ≡ None) ⊎ ((moment : ℕ) (w : World tcp_shape) → option_map_or (observe h moment w) asked unseen ≡ unseen))
+    by None false bare = (refl, inl refl)
+    by None true bare = absurd cc
+    by (Some slack) strict bare = absurd cc
 
 -- the beginning of a call shows nothing in versions 1 to 5, nor does its end
-turn_unseen : (h : Header) (change : CallChange) → IsTrue (not (says_sender h.version)) → observe_turn h change ≡ unseen
-turn_unseen h change plain = by (says_sender h.version) plain
-  where
-    by : (b : Bool) → IsTrue (not b) → (let x : Observation = record unseen { call_change = if b then change else call_change.Nothing } in x) ≡ unseen
-    by true plain = absurd cc
-    by false plain = refl
+turn_unseen : (h : Header) (change : CallChange) → says_sender h.version ≡ false → observe_turn h change ≡ unseen
+turn_unseen h change old = rw (old) refl
 
-pub begin_is_plain : (h : Header) (extras : Extras) (line : Line) (call : Call) → line.event ≡ CallBegin call → IsTrue (not (says_sender h.version))
+pub begin_is_plain : (h : Header) (extras : Extras) (line : Line) (call : Call) → line.event ≡ CallBegin call → says_sender h.version ≡ false
     → IsPlain h (step_taking extras line)
-begin_is_plain h extras line call is plain =
-    subst (λ (event : Event). IsPlain h (option_map line_step (event_taken line.number line.thread event extras))) (sym is) (by extras)
+begin_is_plain h extras line call is old =
+    (old, subst (λ (event : Event). NothingSeen h (option_map line_step (event_taken line.number line.thread event extras))) (sym is) (by extras))
   where
-    by : (extras : Extras) → IsPlain h (option_map line_step (event_taken line.number line.thread (CallBegin call) extras))
-    by Bare = inr (λ moment w. turn_unseen h (beginning line.thread call) plain)
+    by : (extras : Extras) → NothingSeen h (option_map line_step (event_taken line.number line.thread (CallBegin call) extras))
+    by Bare = inr (λ moment w. turn_unseen h (beginning line.thread call) old)
     by (One n) = inr (λ moment w. refl)
     by (Two m n) = inr (λ moment w. refl)
 
-pub end_is_plain : (h : Header) (extras : Extras) (line : Line) (answer : Answer) → line.event ≡ CallEnd answer → IsTrue (not (says_sender h.version))
+pub end_is_plain : (h : Header) (extras : Extras) (line : Line) (answer : Answer) → line.event ≡ CallEnd answer → says_sender h.version ≡ false
     → IsPlain h (step_taking extras line)
-end_is_plain h extras line answer is plain =
-    subst (λ (event : Event). IsPlain h (option_map line_step (event_taken line.number line.thread event extras))) (sym is) (by extras)
+end_is_plain h extras line answer is old =
+    (old, subst (λ (event : Event). NothingSeen h (option_map line_step (event_taken line.number line.thread event extras))) (sym is) (by extras))
   where
-    by : (extras : Extras) → IsPlain h (option_map line_step (event_taken line.number line.thread (CallEnd answer) extras))
-    by Bare = inr (λ moment w. turn_unseen h (call_change.Ends line.thread) plain)
+    by : (extras : Extras) → NothingSeen h (option_map line_step (event_taken line.number line.thread (CallEnd answer) extras))
+    by Bare = inr (λ moment w. turn_unseen h (call_change.Ends line.thread) old)
     by (One n) = inr (λ moment w. refl)
     by (Two m n) = inr (λ moment w. refl)
+
+pub any_is_plain : (h : Header) (asked : Option (Step tcp_shape)) → h.slack ≡ None → says_sender h.version ≡ false → IsPlain h asked
+any_is_plain h asked any old = (old, inl any)

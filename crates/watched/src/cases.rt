@@ -9,12 +9,11 @@ ghost use Rattle.spec_step.specs.Asked.{step_taking};
 ghost use Rattle.spec_step.specs.Faults.{IfBroken};
 ghost use Rattle.spec_tcp.specs.Bounds.{most_steps};
 ghost use Rattle.spec_cases.specs.Cases.{after, asked_after, asked_rules, broken_by, judged_rules, late_at_end};
-ghost use Rattle.spec_cases.specs.Cases.{noted_by, with_waits};
+ghost use Rattle.spec_cases.specs.Cases.{noted_by, refused_by, with_waits};
 ghost use Rattle.spec_cases.specs.Cases.{start};
 ghost use Rattle.spec_duties.specs.Observations.{observe};
-ghost use Rattle.endpoint_state.specs.Faults.{fault_rule};
 ghost use Rattle.spec_duties.specs.Observations as views;
-ghost use Rattle.watched.specs.Watched.{IsPlain, case_of, is_bare, least_broken};
+ghost use Rattle.watched.specs.Watched.{IsPlain, case_of, is_bare, known_of, with_refusal};
 
 use crate::calls::observe_effect;
 use crate::case_end;
@@ -166,7 +165,7 @@ fn watch(
 // number.
 #[inline(always)]
 fn with_refusal(done: Result<(), StepFault>, refusal: Option<Rule>) -> Result<(), StepFault>
-    ensures { fault_rule result ≡ least_broken refusal (fault_rule done) }
+    ensures { result ≡ with_refusal refusal done }
 {
     let Some(refused) = refusal else {
         return done;
@@ -194,10 +193,13 @@ fn watch_step<S: ModelStep>(
     moment: u64,
     step: S,
     seen: &Observation,
+    refusal: Option<Rule>,
 ) -> Result<(), StepFault>
     requires steps { world.old.steps < most_steps }
     requires small { S.is_small step }
     requires seen { seen.now ≡ observe world.old.header moment world.old.world (S.step step) }
+    requires refused { refusal
+        ≡ refused_by world.old.header moment (known_of world.old flights.old duties.old) (S.step step) }
     ensures ok { OnOk result (case_of world.new flights.new duties.new
         ≡ after (case_of world.old flights.old duties.old) moment (S.step step)) }
     ensures admitted { OnOk result
@@ -205,7 +207,6 @@ fn watch_step<S: ModelStep>(
     ensures broken { IfErr result (λ fault. IfBroken fault
         (λ rule. broken_by (case_of world.old flights.old duties.old) moment (S.step step) ≡ Some rule)) }
 {
-    let refusal = flights.refusal(world.header(), seen);
     match with_refusal(step.apply(world, moment), refusal) {
         Ok(()) => {
             let after = view_in(world, &seen.touched);
@@ -273,7 +274,7 @@ fn judge_line(
             ..
         } => {
             let seen = observe_sending(world, host, made, wire);
-            watch_step(world, flights, duties, moment, taken, &seen)
+            watch_step(world, flights, duties, moment, taken, &seen, None)
         }
         TakenLine::CallBegin { .. }
         | TakenLine::CallEnd { .. }
@@ -281,7 +282,7 @@ fn judge_line(
         | TakenLine::Heard { .. }
         | TakenLine::Expired { .. } => {
             let seen = observe_line(world, moment, &taken);
-            watch_step(world, flights, duties, moment, taken, &seen)
+            watch_step(world, flights, duties, moment, taken, &seen, None)
         }
     }
 }
@@ -307,19 +308,25 @@ fn judge_hidden(
     match *step {
         Hidden::Effect { thread, answer } => {
             let seen = observe_effect(world, moment, thread, answer);
-            watch_step(world, flights, duties, moment, *step, &seen)
+            watch_step(world, flights, duties, moment, *step, &seen, None)
         }
         Hidden::Build { host, plan } => {
             let seen = observe_making(world, host, plan, moment);
-            watch_step(world, flights, duties, moment, *step, &seen)
+            let refusal = flights.refusal(world.header(), &seen);
+            watch_step(world, flights, duties, moment, *step, &seen, refusal)
         }
         Hidden::Process { host, line, choice } => {
             let seen = observe_taking(world, host, line, choice, moment);
-            watch_step(world, flights, duties, moment, *step, &seen)
+            watch_step(world, flights, duties, moment, *step, &seen, None)
         }
-        Hidden::Drop { .. } | Hidden::Reset { .. } | Hidden::Recover { .. } => {
+        Hidden::Recover { .. } => {
             let seen = observe_hidden(world, moment, step);
-            watch_step(world, flights, duties, moment, *step, &seen)
+            let refusal = flights.refusal(world.header(), &seen);
+            watch_step(world, flights, duties, moment, *step, &seen, refusal)
+        }
+        Hidden::Drop { .. } | Hidden::Reset { .. } => {
+            let seen = observe_hidden(world, moment, step);
+            watch_step(world, flights, duties, moment, *step, &seen, None)
         }
     }
 }
