@@ -146,7 +146,7 @@ acknowledge_onward : (event : Event) (before after : View) (moment : ℕ) (liste
     → Answers event before after ⊎ (is_closed after.state ≡ true) ⊎ ((owed_after event before after moment listener strict counts o).acknowledge ≡ Some since)
 acknowledge_onward event before after moment listener strict counts o since is =
     open_or_closed (λ n. Answers event before after ⊎ (is_closed after.state ≡ true)
-        ⊎ (n.acknowledge ≡ Some since)) event before after moment listener strict counts o
+    ⊎ (n.acknowledge ≡ Some since)) event before after moment listener strict counts o
     (λ closed. inr (inl closed)) (by (is_answer event) refl)
   where
     asks : (b : Bool) → (if b then option_or o.acknowledge (Some moment) else o.acknowledge) ≡ Some since
@@ -267,7 +267,7 @@ retransmit_begins : (before after : View) (moment : ℕ) (listener : Option ℕ)
     → (is_closed after.state ≡ true) ⊎ ((since : ℕ) × ((owed_after (Expires Rto) before after moment listener strict counts o).retransmit ≡ Some since))
 retransmit_begins before after moment listener strict counts o =
     open_or_closed (λ n. (is_closed after.state ≡ true) ⊎ ((since : ℕ)
-        × (n.retransmit ≡ Some since))) (Expires Rto) before after moment listener strict counts o
+    × (n.retransmit ≡ Some since))) (Expires Rto) before after moment listener strict counts o
     (λ closed. inl closed) (inr (since_now o.retransmit moment))
 
 -- ---- probe
@@ -276,7 +276,7 @@ probe_onward : (event : Event) (before after : View) (moment : ℕ) (listener : 
     → SendsAnything event before after ⊎ (is_closed after.state ≡ true) ⊎ ((owed_after event before after moment listener strict counts o).probe ≡ Some since)
 probe_onward event before after moment listener strict counts o since is =
     open_or_closed (λ n. SendsAnything event before after ⊎ (is_closed after.state ≡ true)
-        ⊎ (n.probe ≡ Some since)) event before after moment listener strict counts o
+    ⊎ (n.probe ≡ Some since)) event before after moment listener strict counts o
     (λ closed. inr (inl closed)) (by (is_probe_timeout event) (is_sending event || acknowledges_more before after) refl)
   where
     by : (a b : Bool) → (is_sending event || acknowledges_more before after) ≡ b
@@ -324,7 +324,7 @@ start_onward : (event : Event) (before after : View) (moment : ℕ) (listener : 
     → IsNotIdle event before after ⊎ (is_closed after.state ≡ true) ⊎ ((owed_after event before after moment listener strict counts o).start ≡ Some since)
 start_onward event before after moment listener strict counts o since is =
     open_or_closed (λ n. IsNotIdle event before after ⊎ (is_closed after.state ≡ true)
-        ⊎ (n.start ≡ Some since)) event before after moment listener strict counts o
+    ⊎ (n.start ≡ Some since)) event before after moment listener strict counts o
     (λ closed. inr (inl closed)) (by (is_idle_with_work after) refl)
   where
     by : (b : Bool) → is_idle_with_work after ≡ b
