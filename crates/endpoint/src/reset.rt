@@ -14,14 +14,13 @@ use std::alloc::Global;
 /// How many numbers there are.
 const TURN: u128 = 1 << 32;
 
-/// The reset: at the number that the segment acknowledges, or at 0 with an acknowledgment of all its positions. Uses no
-/// memory.
+/// The reset: at the number that the segment acknowledges, or at 0 with an acknowledgment of all its positions. That
+/// number is kept of both. Uses no memory.
 pub fn reset_of(alloc: Global, m: &Emission) -> Emission
     ensures reset { result ≡ reset_of m.now }
     ensures small { IsSmallEmission result }
 {
     let acknowledges = m.flags.ack;
-    let behind = number_behind(m.seq, m.length());
     Emission {
         sender: m.sender,
         peer_at_send: None,
@@ -30,7 +29,7 @@ pub fn reset_of(alloc: Global, m: &Emission) -> Emission
         pos: 0,
         ack: 0,
         seq: if acknowledges { m.ack_seq } else { Word(0) },
-        ack_seq: if acknowledges { Word(0) } else { behind },
+        ack_seq: number_behind(m.seq, m.length()),
         flags: Flags {
             ack: !acknowledges,
             rst: true,

@@ -5,14 +5,15 @@ ghost use Rattle.spec_network.specs.HostRules.{just};
 ghost use Rattle.spec_tcp.specs.Bounds.{IsSmallEmission};
 ghost use Rattle.spec_tcp.specs.Heard.{heard, most_bytes, told_flags};
 ghost use Rattle.spec_tcp.specs.Same.{same_bytes};
-ghost use Rattle.spec_tcp.specs.Wire.{same_flags, header_matches, shift_matches, matches_sent, sent, in_rules};
+ghost use Rattle.spec_tcp.specs.Wire.{ack_matches, header_matches, in_rules, matches_sent, may_acknowledge};
+ghost use Rattle.spec_tcp.specs.Wire.{same_flags, sent, sent_ack, shift_matches};
 ghost use Rattle.std.specs.Prelude.{◌≡◌, ◌≤◌, IfOk, ◌+◌, length, nat_lt, not, take};
 ghost use Rattle.std.specs.Result.{result_err};
 ghost use Rattle.verdict.specs.Rules.{first_broken};
 ghost use Rattle.verdict.specs.declared.rule.Rule.TheVariants.{NoEmission};
 
 use crate::same::{same_bool, same_word};
-use case_forms::{Flags, Header, Host, Wire};
+use case_forms::{Flags, Header, Host, Version, Wire};
 use segment::{Bytes, Flag, OutOfMemory, Segment};
 use spec_tcp::{Emission, EndpointId};
 use std::alloc::Global;
@@ -27,15 +28,14 @@ const FAR_ID: EndpointId = EndpointId {
 /// No segment carries more bytes than this.
 const MOST_BYTES: usize = 65_535;
 
-// Whether the segment's fields are those of the built one: the acknowledgment number if it has one, the window of all
-// except a reset in answer to a segment.
-fn header_matches(segment: &Segment, m: &Emission) -> bool
-    ensures { result ≡ header_matches segment.now m.now }
+// Whether the segment's fields are those of the built one: the window of all except a reset in answer to a segment.
+fn header_matches(version: Version, segment: &Segment, m: &Emission) -> bool
+    ensures { result ≡ header_matches version segment.now m.now }
 {
     segment.src == m.lport
         && segment.dst == m.rport
         && same_word(segment.seq, m.seq)
-        && (!m.flags.ack || same_word(segment.ack, m.ack_seq))
+        && ack_matches(version, segment, m)
         && same_flags(segment, m.flags)
         && (m.is_reset_reply || segment.window == m.window)
         && same_bytes(segment.payload.as_slice(), m.payload.as_slice())
@@ -48,12 +48,29 @@ fn same_bytes(a: &[u8], b: &[u8]) -> bool
     a == b
 }
 
-// Only the flags ACK, RST, SYN and FIN.
+// Whether the segment may acknowledge: as it was built, or in version 6 any reset in answer to a segment.
+fn may_acknowledge(version: Version, m: &Emission) -> bool
+    ensures { result ≡ may_acknowledge version m.now }
+{
+    m.flags.ack || version.says_sender() && m.is_reset_reply
+}
+
+// Whether ACK is that of the built segment, and so is the number that is acknowledged.
+fn ack_matches(version: Version, segment: &Segment, m: &Emission) -> bool
+    ensures { result ≡ ack_matches version segment.now m.now }
+{
+    if segment.has(Flag::Ack) {
+        may_acknowledge(version, m) && same_word(segment.ack, m.ack_seq)
+    } else {
+        !m.flags.ack
+    }
+}
+
+// Only the flags RST, SYN and FIN.
 fn same_flags(segment: &Segment, flags: Flags) -> bool
     ensures { result ≡ same_flags segment.now flags }
 {
-    same_bool(segment.has(Flag::Ack), flags.ack)
-        && same_bool(segment.has(Flag::Rst), flags.rst)
+    same_bool(segment.has(Flag::Rst), flags.rst)
         && same_bool(segment.has(Flag::Syn), flags.syn)
         && same_bool(segment.has(Flag::Fin), flags.fin)
 }
@@ -73,19 +90,32 @@ fn shift_matches(segment: &Segment, m: &Emission) -> bool
 pub fn matches_sent(header: &Header, wire: &Wire, m: &Emission) -> bool
     ensures { result ≡ matches_sent header.now wire.now m.now }
 {
-    header_matches(&wire.seg, m)
+    header_matches(header.version, &wire.seg, m)
         && (!(header.version.scales() && m.flags.syn) || shift_matches(&wire.seg, m))
 }
 
+// Whether a segment acknowledges that was sent: a reset in answer to a segment as the wire shows it.
+fn sent_ack(segment: &Segment, m: &Emission) -> bool
+    ensures { result ≡ sent_ack segment.now m.now }
+{
+    if m.is_reset_reply {
+        segment.has(Flag::Ack)
+    } else {
+        m.flags.ack
+    }
+}
+
 /// The built segment after it was sent, at a moment in microseconds: with its bytes, and the MSS and the shift in its
-/// options. The wire has the payload of the built segment: its parts are moved, and nothing is copied.
+/// options; a reset in answer to a segment acknowledges if the wire shows it. The wire has the payload of the built
+/// segment: its parts are moved, and nothing is copied.
 pub fn sent(moment: u64, wire: Wire, m: &Emission) -> Emission
     requires { wire.seg.payload ≡ m.now.payload }
     ensures sent { result ≡ sent moment wire m.now }
     ensures small { IsSmallEmission m.now → IsSmallEmission result }
 {
+    let ack = sent_ack(&wire.seg, m);
     let Wire { bytes, seg } = wire;
-    with_bytes(m, seg.payload, bytes, (seg.mss, seg.scale), moment)
+    with_bytes(m, ack, seg.payload, bytes, (seg.mss, seg.scale), moment)
 }
 
 /// A copy of a segment, as it arrives on a wire that has its bytes: they are moved, and so is the payload if the
@@ -96,7 +126,8 @@ pub fn copy(wire: Wire, m: &Emission) -> Result<Emission, OutOfMemory>
 {
     let Wire { bytes, seg } = wire;
     let payload = same_or_copy(seg.payload, &m.payload)?;
-    Ok(with_bytes(m, payload, bytes, (m.mss, m.scale), m.moment))
+    let told = (m.mss, m.scale);
+    Ok(with_bytes(m, m.flags.ack, payload, bytes, told, m.moment))
 }
 
 // These bytes if they are the required ones, else a copy of those.
@@ -110,17 +141,19 @@ fn same_or_copy(bytes: Bytes, wanted: &Bytes) -> Result<Bytes, OutOfMemory>
     }
 }
 
-// A segment with this payload, on the wire at a moment in microseconds: with its bytes, and the MSS and the shift in
-// its options.
+// A segment with this flag ACK and this payload, on the wire at a moment in microseconds: with its bytes, and the MSS
+// and the shift in its options.
 #[inline(always)]
 fn with_bytes(
     m: &Emission,
+    ack: bool,
     payload: Bytes,
     bytes: Bytes,
     told: (Option<u16>, Option<u8>),
     moment: u64,
 ) -> Emission
     ensures { result ≡ record m.now {
+      flags = record m.now.flags { ack = ack };
       payload = payload;
       bytes = bytes;
       mss = told.0;
@@ -137,7 +170,7 @@ fn with_bytes(
         ack: m.ack,
         seq: m.seq,
         ack_seq: m.ack_seq,
-        flags: m.flags,
+        flags: Flags { ack, ..m.flags },
         window: m.window,
         payload,
         shift: m.shift,

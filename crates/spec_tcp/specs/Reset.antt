@@ -27,7 +27,8 @@ finds_nothing m (AtEndpoint i e) = is_stray_ack e m
 abbrev pub reset_rules : HostTcp → Emission → List (Rule × Bool)
 reset_rules b m = (rules.State, m.flags.rst || not (finds_nothing m (taker b m))) ∷ []
 
--- the reset: at the acknowledged number, or at 0 with an acknowledgment of all of the segment
+-- the reset: at the acknowledged number, or at 0 with an acknowledgment of all of the segment; that number is kept of
+-- both
 abbrev pub reset_of : Emission → Emission
 reset_of m = record {
   sender = m.sender;
@@ -37,7 +38,7 @@ reset_of m = record {
   pos = 0;
   ack = 0;
   seq = if m.flags.ack then m.ack_seq else word_zero;
-  ack_seq = if m.flags.ack then word_zero else number_of m.seq (segment_length m);
+  ack_seq = number_of m.seq (segment_length m);
   flags = record { ack = not m.flags.ack; rst = true; syn = false; fin = false };
   window = 0;
   payload = [];

@@ -54,8 +54,19 @@ use Rattle.spec_tcp_laws.proofs.Calls.{name_told, call_adds, Apart, owner_elsewh
 ends : (a : Hosts) (host : Host) → Good a → GoodEnds a host (pick a host).body.endpoints
 ends a host g = (g host).endpoints
 
+-- what isn't a reset in answer to a segment acknowledges as it was built
+own_ack : (reply told built : Bool) → reply ≡ false → (if reply then told else built) ≡ true → built ≡ true
+own_ack true told built plain acks = absurd cc
+own_ack false told built plain acks = acks
+
 emission_sent : (b : Hosts) (moment : ℕ) (wire : Wire) (m : Emission) → GoodEmission b m → GoodEmission b (sent moment wire m)
-emission_sent b moment wire m g = record { there = g.there; sent = g.sent; peer_at_send = g.peer_at_send; resets = g.resets; ack = g.ack }
+emission_sent b moment wire m g = record {
+  there = g.there;
+  sent = g.sent;
+  peer_at_send = g.peer_at_send;
+  resets = g.resets;
+  ack = λ acks plain. g.ack (own_ack m.is_reset_reply _ m.flags.ack plain acks) plain;
+}
 
 reset_good : (b : Hosts) (m : Emission) → GoodEmission b m → GoodEmission b (reset_of m)
 reset_good b m g = record {

@@ -483,7 +483,7 @@ nothing h me w tried m e rst found past permitted = refute (one_may h.version h.
 
     may : first_broken (making_rules h.version e m) ≡ None
     may = subst (λ (o : Option Endpoint).
-    first_broken (option_map_or (λ x. making_rules h.version x m) o ((rules.NoEndpoint, true) ∷ [])) ≡ None) found permitted
+        first_broken (option_map_or (λ x. making_rules h.version x m) o ((rules.NoEndpoint, true) ∷ [])) ≡ None) found permitted
 
     back : (c : SegmentPlan) → c.lport ≡ e.lport → c.rport ≡ e.rport → first_broken (making_rules h.version e c) ≡ None
         → Permitted (tcp h) 0 w (At me (Makes c))

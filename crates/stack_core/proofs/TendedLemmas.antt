@@ -91,7 +91,7 @@ nothing_ready h me w looked [] all none are m e rst found past permitted =
   where
     may : first_broken (making_rules h.version e m) ≡ None
     may = subst (λ (o : Option Endpoint).
-    first_broken (option_map_or (λ x. making_rules h.version x m) o ((rules.NoEndpoint, true) ∷ [])) ≡ None) found permitted
+        first_broken (option_map_or (λ x. making_rules h.version x m) o ((rules.NoEndpoint, true) ∷ [])) ≡ None) found permitted
 
     by : (i : ℕ) → ((n : ℕ) × IsListed (from n i) [] × (Unit {0})) ⊎ IsQuiet e → ⊥
     by i (inl (n, absent, x)) = absent

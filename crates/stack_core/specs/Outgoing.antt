@@ -1,6 +1,7 @@
 -- How a made segment is sent.
 use Rattle.std.specs.Prelude.{◌≡◌, ◌≤◌, ℕ, ◌+◌, nat_eq, true, if◌then◌else◌, [], length, Option, None, Some}
 use Rattle.std.specs.Map.{lookup}
+use Rattle.seqno.specs.declared.word.Word.{Word}
 use Rattle.case_forms.specs.declared.steps.Flags.{Flags}
 use Rattle.case_forms.specs.declared.trace.Wire.{Wire}
 use Rattle.segment.specs.declared.fields.Segment.{Segment}
@@ -8,6 +9,7 @@ use Rattle.spec_network.specs.Tables.{pick, unsent}
 use Rattle.spec_network.specs.Hosts.{At, Sends}
 use Rattle.spec_tcp.specs.declared.endpoint.Emission.{Emission}
 use Rattle.spec_tcp.specs.Machine.{tcp_shape}
+use Rattle.spec_tcp.specs.Makes.Kind.{word_zero}
 use Rattle.spec_tcp.specs.Wire.{matches_sent, sent}
 use Rattle.spec_merge.specs.Books.{Flying}
 use Rattle.stack_core.specs.Cores.{Core, line_to_come, with_step, world}
@@ -21,6 +23,10 @@ flag_bits f = (if f.ack then 16 else 0) + (if f.rst then 4 else 0) + (if f.syn t
 abbrev pub told_shift : Emission → Option ℕ
 told_shift m = if m.flags.syn then m.shift else None
 
+-- the number that it acknowledges, or 0 without ACK
+abbrev pub told_ack : Emission → Word
+told_ack m = if m.flags.ack then m.ack_seq else word_zero
+
 -- a made segment as it is sent, with this MSS option if there is one
 abbrev pub segment_of : Emission → Option ℕ → Segment
 segment_of m mss =
@@ -28,7 +34,7 @@ segment_of m mss =
       src = m.lport;
       dst = m.rport;
       seq = m.seq;
-      ack = m.ack_seq;
+      ack = told_ack m;
       flags = flag_bits m.flags;
       window = m.window;
       mss =

@@ -4,12 +4,13 @@ ghost use Rattle.std.specs.Prelude.{◌≡◌, ◌≤◌, IfOk, true, length};
 ghost use Rattle.case_forms.specs.declared.trace.Header.{Header};
 ghost use Rattle.segment.specs.Layout.{IsSegment};
 ghost use Rattle.spec_tcp.specs.Wire.{matches_sent};
-ghost use Rattle.stack_core.specs.Outgoing.{flag_bits, greatest_payload, segment_of};
+ghost use Rattle.stack_core.specs.Outgoing.{flag_bits, greatest_payload, segment_of, told_ack};
 
 use crate::transit::Flying;
 use case_forms::{Flags, OutOfMemory, Wire};
 use recording_parts::payload_of;
 use segment::{Bytes, EncFault, SegFault, Segment, decode, encode};
+use seqno::Word;
 use spec_tcp::Emission;
 use std::alloc::{AllocError, Global};
 
@@ -53,7 +54,7 @@ fn segment_of(alloc: Global, m: &Emission, mss: Option<u16>) -> Result<Segment, 
         src: m.lport,
         dst: m.rport,
         seq: m.seq,
-        ack: m.ack_seq,
+        ack: told_ack(m),
         flags: flag_bits(m.flags),
         window: m.window,
         mss,
@@ -61,6 +62,13 @@ fn segment_of(alloc: Global, m: &Emission, mss: Option<u16>) -> Result<Segment, 
         options: Bytes::from_slice(alloc, &[])?,
         payload: payload_of(m)?,
     })
+}
+
+// The number that it acknowledges, or 0 without ACK.
+fn told_ack(m: &Emission) -> Word
+    ensures { result ≡ told_ack m.now }
+{
+    if m.flags.ack { m.ack_seq } else { Word(0) }
 }
 
 fn flag_bits(flags: Flags) -> u8

@@ -135,7 +135,7 @@ fn of_sent(
     wire: &Wire,
 ) -> Result<(), OutOfMemory> {
     match rule {
-        Rule::BytesDiffer => wire::differences(out, made, wire),
+        Rule::BytesDiffer => wire::sent_differs(out, scene.header().version, made, wire),
         Rule::NotMade => wire::sent_before(out, scene, number),
         Rule::SendLate => late::built(out, scene, number),
         _ => Ok(()),

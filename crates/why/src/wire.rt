@@ -1,7 +1,7 @@
 //! The rules of lines that show segments.
 
 use crate::scene::{Scene, first_extra};
-use case_forms::{Event, Host, Label, OutOfMemory, Wire};
+use case_forms::{Event, Host, Label, OutOfMemory, Version, Wire};
 use plain_words::{HostName, word_if};
 use segment::{Flag, Segment};
 use spec_tcp::Emission;
@@ -153,7 +153,7 @@ pub(crate) fn copy_differs(out: &mut String, m: &Emission, wire: &Wire) -> Resul
         )?;
     }
     first_difference(out, "byte of the segment", "sent", sent, shown)?;
-    differences(out, m, wire)
+    differences(out, m, m.flags.ack, wire)
 }
 
 /// When the segment was sent and received.
@@ -165,9 +165,20 @@ pub(crate) fn lifetime(out: &mut String, scene: &Scene, m: &Emission) -> Result<
     )
 }
 
-/// The fields in which the segment and the line differ.
-pub(crate) fn differences(out: &mut String, m: &Emission, wire: &Wire) -> Result<(), OutOfMemory> {
-    for (name, built, shown) in &fields(m, &wire.seg) {
+/// The fields in which a built segment and its line differ. In version 6, a reset in answer to a segment may show ACK.
+pub(crate) fn sent_differs(
+    out: &mut String,
+    version: Version,
+    m: &Emission,
+    wire: &Wire,
+) -> Result<(), OutOfMemory> {
+    let may = version.says_sender() && m.is_reset_reply && wire.seg.has(Flag::Ack);
+    differences(out, m, m.flags.ack || may, wire)
+}
+
+// The fields in which the segment and the line differ; `ack`: the segment acknowledges.
+fn differences(out: &mut String, m: &Emission, ack: bool, wire: &Wire) -> Result<(), OutOfMemory> {
+    for (name, built, shown) in &fields(m, ack, &wire.seg) {
         if built != shown {
             writeln!(out, "  {name}: built {built}, the line shows {shown}")?;
         }
@@ -181,8 +192,8 @@ pub(crate) fn differences(out: &mut String, m: &Emission, wire: &Wire) -> Result
 }
 
 // The fields of the built segment and of the shown one. A number that nobody reads is that of the shown one.
-fn fields(m: &Emission, seg: &Segment) -> [(&'static str, u64, u64); 10] {
-    let ack = if m.flags.ack { m.ack_seq } else { seg.ack };
+fn fields(m: &Emission, acks: bool, seg: &Segment) -> [(&'static str, u64, u64); 10] {
+    let ack = if acks { m.ack_seq } else { seg.ack };
     let window = if m.is_reset_reply {
         seg.window
     } else {
@@ -197,7 +208,7 @@ fn fields(m: &Emission, seg: &Segment) -> [(&'static str, u64, u64); 10] {
             u64::from(ack.0),
             u64::from(seg.ack.0),
         ),
-        ("ACK", u64::from(m.flags.ack), u64::from(seg.has(Flag::Ack))),
+        ("ACK", u64::from(acks), u64::from(seg.has(Flag::Ack))),
         ("RST", u64::from(m.flags.rst), u64::from(seg.has(Flag::Rst))),
         ("SYN", u64::from(m.flags.syn), u64::from(seg.has(Flag::Syn))),
         ("FIN", u64::from(m.flags.fin), u64::from(seg.has(Flag::Fin))),
