@@ -13,7 +13,7 @@ use Rattle.spec_tcp.specs.declared.endpoint.Endpoint.{Endpoint}
 use Rattle.case_forms.specs.States.{is_closed, is_syn_sent}
 use Rattle.spec_tcp.specs.Calls.Receive.{recv_allows, after_recv}
 use Rattle.spec_tcp.specs.Calls.Send.{after_send}
-use Rattle.spec_tcp.specs.Calls.Close.{shut_down, ended_state, after_shut, after_close, after_abort, orphaned}
+use Rattle.spec_tcp.specs.Calls.Close.{shut_down, ended_state, after_ending, after_shut, after_close, after_abort, orphaned}
 use Rattle.case_forms.specs.declared.steps.SegmentPlan.{SegmentPlan}
 use Rattle.spec_tcp.specs.Makes.{endpoint_made, after_making}
 use Rattle.case_forms.specs.declared.taken_line.Expired.{Expired}
@@ -46,8 +46,8 @@ ended_closed states.Established = refl
 ended_closed states.CloseWait = refl
 ended_closed _ = refl
 
-shut_sending : (steps : ℕ) (e : Endpoint) → IsBounded steps e → IsBounded steps (after_shut e)
-shut_sending steps e b =
+ending_sending : (steps : ℕ) (e : Endpoint) → IsBounded steps e → IsBounded steps (after_ending e)
+ending_sending steps e b =
     record {
       snd_una = b.snd_una;
       counts = b.counts;
@@ -100,11 +100,13 @@ either : (steps : ℕ) (c : Bool) (x y : Endpoint) → IsBounded steps x → IsB
 either steps true x y p q = p
 either steps false x y p q = q
 
-close_bounded : (steps : ℕ) (e : Endpoint) → IsBounded steps e → IsBounded steps (after_close e)
-close_bounded steps e b =
+shut_sending : (steps : ℕ) (e : Endpoint) → IsBounded steps e → IsBounded steps (after_shut e)
+shut_sending steps e b =
     let gone : Endpoint = record e { stream = record e.stream { ended = true } } in
-    closing steps (if is_syn_sent e.state then shut_down gone else after_shut e)
-    (either steps (is_syn_sent e.state) (shut_down gone) (after_shut e) (shut steps gone (ending steps e b)) (shut_sending steps e b))
+    either steps (is_syn_sent e.state) (shut_down gone) (after_ending e) (shut steps gone (ending steps e b)) (ending_sending steps e b)
+
+close_bounded : (steps : ℕ) (e : Endpoint) → IsBounded steps e → IsBounded steps (after_close e)
+close_bounded steps e b = closing steps (after_shut e) (shut_sending steps e b)
 
 abort_bounded : (steps : ℕ) (e : Endpoint) → IsBounded steps e → IsBounded steps (after_abort e)
 abort_bounded steps e b = due steps (shut_down e) _ (shut steps e b)
