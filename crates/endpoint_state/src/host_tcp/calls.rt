@@ -49,13 +49,7 @@ impl HostTcp {
         }
     }
 
-    fn socket_allows(
-        &self,
-        version: Version,
-        number: u32,
-        call: &Call,
-        answer: &Answer,
-    ) -> bool
+    fn socket_allows(&self, version: Version, number: u32, call: &Call, answer: &Answer) -> bool
         ensures { result ≡ socket_allows version self.now number call.now answer.now }
     {
         match self.target(number) {
