@@ -151,7 +151,7 @@ recv_bounded v steps b n most bytes allowed k = by (socket_target b n) allowed
     by (Some (ListenerAt l)) h = body_later steps b k
     by (Some (EndpointAt i)) h =
         place_bounded steps b i (after_recv bytes)
-        (λ e there. after_recv_bounded most bytes steps e
+        (λ e there. after_recv_bounded v most bytes steps e
         (subst (λ (o : Option Endpoint).
         option_map_or (λ x. endpoint_allows v x (calls.Recv n most) (answers.Bytes bytes)) o false ≡ true) there
         h))

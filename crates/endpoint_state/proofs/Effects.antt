@@ -3,6 +3,7 @@ use Rattle.std.proofs.Common.{◌≡◌, ℕ, suc, ◌^◌, ◌<◌, Bool, true,
 use Rattle.std.specs.Prelude.{◌==◌, ◌&&◌, nat_le, if◌then◌else◌}
 use Rattle.std.specs.Option.{option_map_or}
 use Rattle.std.proofs.lemmas.List.{length-append, length-take}
+use Rattle.case_forms.specs.declared.version.Version.{Version}
 use Rattle.case_forms.specs.declared.calls.State.{State}
 use Rattle.case_forms.specs.declared.calls.State.TheVariants as states
 use Rattle.case_forms.specs.declared.calls.Answer.TheVariants as answers
@@ -163,15 +164,16 @@ third_false true false e = cc
 third_false false c e = cc
 
 -- where nothing was taken no bytes are given
-empty_gives : (e : Endpoint) (most : ℕ) (bytes : List ℕ) → e.stream.receive ≡ received.empty → recv_allows e most (answers.Bytes bytes) ≡ true → ⊥
-empty_gives e most [] none h = cc
-empty_gives e most (x ∷ bytes) none h =
+empty_gives : (v : Version) (e : Endpoint) (most : ℕ) (bytes : List ℕ) → e.stream.receive ≡ received.empty
+    → recv_allows v e most (answers.Bytes bytes) ≡ true → ⊥
+empty_gives v e most [] none h = cc
+empty_gives v e most (x ∷ bytes) none h =
     third_false (nat_le 1 (length (x ∷ bytes))) (nat_le (length (x ∷ bytes)) most)
-    (subst (λ r. recv_allows (record e { stream = record e.stream { receive = r } }) most (answers.Bytes (x ∷ bytes)) ≡ true) none h)
+    (subst (λ r. recv_allows v (record e { stream = record e.stream { receive = r } }) most (answers.Bytes (x ∷ bytes)) ≡ true) none h)
 
-pub after_recv_bounded : (most : ℕ) (bytes : List ℕ) (steps : ℕ) (e : Endpoint)
-    → recv_allows e most (answers.Bytes bytes) ≡ true → IsBounded steps e → IsBounded (suc steps) (after_recv bytes e)
-after_recv_bounded most bytes steps e allowed b =
+pub after_recv_bounded : (v : Version) (most : ℕ) (bytes : List ℕ) (steps : ℕ) (e : Endpoint)
+    → recv_allows v e most (answers.Bytes bytes) ≡ true → IsBounded steps e → IsBounded (suc steps) (after_recv bytes e)
+after_recv_bounded v most bytes steps e allowed b =
     let later = bounded_later steps e b in
     record {
       snd_una = b.snd_una;
@@ -180,7 +182,7 @@ after_recv_bounded most bytes steps e allowed b =
       backoffs = later.backoffs;
       accepted = later.accepted;
       met = b.met;
-      unmet = λ sent. absurd (empty_gives e most bytes (b.unmet sent) allowed);
+      unmet = λ sent. absurd (empty_gives v e most bytes (b.unmet sent) allowed);
     }
 
 -- 2. making, timers, recovery
