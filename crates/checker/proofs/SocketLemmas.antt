@@ -58,7 +58,8 @@ owned_later a z stay n o = (o.0, o.1, stay o.0 n o.1 o.2)
 abbrev Allowed : Version → Hosts → Call → Answer → Option Host → Type 0
 Allowed v a call answer o = option_map_or (λ host. call_allows v (pick a host).body call answer) o (is_bad_socket answer) ≡ true
 
-sends_at : (v : Version) (a : Hosts) (n : ℕ) (bytes : List ℕ) (count : ℕ) (o : Option Host) → Allowed v a (calls.Send n bytes) (answers.Given count) o → Owned a n
+sends_at : (v : Version) (a : Hosts) (n : ℕ) (bytes : List ℕ) (count : ℕ) (o : Option Host)
+    → Allowed v a (calls.Send n bytes) (answers.Given count) o → Owned a n
 sends_at v a n bytes count None may = absurd cc
 sends_at v a n bytes count (Some x) may =
     let y = named v (pick a x).body n (calls.Send n bytes) (answers.Given count) may refl refl (λ queue. refused queue) in

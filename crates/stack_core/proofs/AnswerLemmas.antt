@@ -197,7 +197,8 @@ module _ (h : Header) (me : Host) (moment : ℕ) (v : World tcp_shape) (own : Is
       by One = second (given v.hosts.zero.body n) (given v.hosts.one.body n) is
 
   at_socket : (n : ℕ) (c : Call) → aim_of (tcp h) v.hosts (ThatSocket n) ≡ None → socket_allows h.version b n c answer ≡ true → is_bad_socket answer ≡ true
-  at_socket n c is may = subst (λ (o : Option SocketTarget). option_map_or (target_allows h.version b c answer) o (is_bad_socket answer) ≡ true) (nobody n is) may
+  at_socket n c is may =
+      subst (λ (o : Option SocketTarget). option_map_or (target_allows h.version b c answer) o (is_bad_socket answer) ≡ true) (nobody n is) may
 
   stray : (c : Call) → aim_of (tcp h) v.hosts (aim c) ≡ None → call_allows h.version b c answer ≡ true → is_bad_socket answer ≡ true
   stray (calls.Listen host port backlog) is may = absurd (none-some host (sym is))

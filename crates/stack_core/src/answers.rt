@@ -19,8 +19,9 @@ use recording_parts::on_no_socket;
 use spec_tcp::SocketTarget;
 use std::alloc::Global;
 
-/// The answer of a call at the host that it means, in a text of this version; it may give the next socket number. A send is answered with the
-/// number of bytes that the ring has room for, at least one. None: the call waits. The error is that memory ran out.
+/// The answer of a call at the host that it means, in a text of this version; it may give the next socket number. A
+/// send is answered with the number of bytes that the ring has room for, at least one. None: the call waits. The error
+/// is that memory ran out.
 pub(crate) fn choose(
     alloc: Global,
     version: Version,
