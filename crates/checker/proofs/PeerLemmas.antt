@@ -32,6 +32,7 @@ use Rattle.spec_tcp.specs.declared.endpoint.EndpointId.{EndpointId}
 use Rattle.spec_tcp.specs.declared.endpoint.Stream.{Stream}
 use Rattle.spec_tcp.specs.declared.endpoint.Endpoint.{Endpoint}
 use Rattle.spec_tcp.specs.declared.endpoint.Emission.{Emission}
+use Rattle.spec_tcp.specs.declared.endpoint.Socket.{Socket}
 use Rattle.spec_tcp.specs.declared.endpoint.SocketTarget.{SocketTarget}
 use Rattle.spec_tcp.specs.declared.endpoint.SocketTarget.TheVariants.{ListenerAt, EndpointAt}
 use Rattle.spec_tcp.specs.Endpoints.{new_endpoint}
@@ -39,7 +40,7 @@ use Rattle.spec_tcp.specs.HostTcp.{HostTcp, place_of, at_ports, with_endpoint, s
 use Rattle.case_forms.specs.States.{is_syn_sent}
 use Rattle.spec_tcp.specs.Calls.Send.{after_send}
 use Rattle.spec_tcp.specs.Calls.Receive.{after_recv}
-use Rattle.spec_tcp.specs.Calls.Close.{shut_down, after_shut, after_close, after_abort, orphaned, target_gone}
+use Rattle.spec_tcp.specs.Calls.Close.{shut_down, after_ending, after_shut, after_close, after_abort, orphaned, target_gone}
 use Rattle.spec_tcp.specs.Calls.Accept.{accepted_from, after_accept}
 use Rattle.spec_tcp.specs.Calls.{change_target, after_call}
 use Rattle.spec_tcp.specs.Makes.{endpoint_made, after_making}
@@ -255,11 +256,11 @@ moves_change w step host b n f same =
     go (EndpointAt i) = moves_same w step host b i f same
 
 moves_gone : (w : World tcp_shape) (step : Step tcp_shape) (host : Host) (b : HostTcp) (n : ℕ) (f : Endpoint → Endpoint)
-    → ((e : Endpoint) → (f e).stream.peer ≡ e.stream.peer)
-    → Moves w step host b.endpoints (option_map_or (λ target. record (target_gone b target f) { sockets = dead b.sockets n }) (socket_target b n) b).endpoints
-moves_gone w step host b n f same =
+    (sockets : List (ℕ × Socket)) → ((e : Endpoint) → (f e).stream.peer ≡ e.stream.peer)
+    → Moves w step host b.endpoints (option_map_or (λ target. record (target_gone b target f) { sockets = sockets }) (socket_target b n) b).endpoints
+moves_gone w step host b n f sockets same =
     map_or_cases (λ (x : HostTcp). Moves w step host b.endpoints x.endpoints) (socket_target b n) b
-    (λ target. record (target_gone b target f) { sockets = dead b.sockets n }) (λ e. moves_not w step host b.endpoints)
+    (λ target. record (target_gone b target f) { sockets = sockets }) (λ e. moves_not w step host b.endpoints)
     (λ target e. go target)
   where
     go : (target : SocketTarget) → Moves w step host b.endpoints (target_gone b target f).endpoints
@@ -278,6 +279,12 @@ moves_accept w step host b n (ListenerAt l) = go (queue_of b l)
     go [] = moves_not w step host b.endpoints
     go (c ∷ queue) = moves_same w step host b c (λ e. record e { listener = None }) (λ e. refl)
 
+shut_peer : (e : Endpoint) → (after_shut e).stream.peer ≡ e.stream.peer
+shut_peer e =
+    ap (λ (s : Stream). s.peer)
+    (either_stream (is_syn_sent e.state) (shut_down (record e { stream = record e.stream { ended = true } }))
+    (after_ending e) (record e.stream { ended = true }) refl refl)
+
 moves_call : (p : Profile) (w : World tcp_shape) (step : Step tcp_shape) (host : Host) (b : HostTcp) (call : Call) (answer : Answer)
     → Moves w step host b.endpoints (after_call p b call answer).endpoints
 moves_call p w step host b (calls.Listen at port backlog) (answers.Given n) = moves_not w step host b.endpoints
@@ -288,12 +295,9 @@ moves_call p w step host b (calls.Accept h) (answers.Given n) =
     (λ e. moves_not w step host b.endpoints) (λ target e. moves_accept w step host b n target)
 moves_call p w step host b (calls.Send h bytes) (answers.Given n) = moves_change w step host b h (after_send bytes n) (λ e. refl)
 moves_call p w step host b (calls.Recv h most) (answers.Bytes bytes) = moves_change w step host b h (after_recv bytes) (λ e. refl)
-moves_call p w step host b (calls.Shut h) answers.Done = moves_change w step host b h after_shut (λ e. refl)
-moves_call p w step host b (calls.Close h) answers.Done = moves_gone w step host b h after_close
-    (λ e. ap (λ (s : Stream). s.peer)
-    (either_stream (is_syn_sent e.state) (shut_down (record e { stream = record e.stream { ended = true } }))
-    (after_shut e) (record e.stream { ended = true }) refl refl))
-moves_call p w step host b (calls.Abort h) answers.Done = moves_gone w step host b h after_abort (λ e. refl)
+moves_call p w step host b (calls.Shut h) answers.Done = moves_gone w step host b h after_shut b.sockets shut_peer
+moves_call p w step host b (calls.Close h) answers.Done = moves_gone w step host b h after_close (dead b.sockets h) shut_peer
+moves_call p w step host b (calls.Abort h) answers.Done = moves_gone w step host b h after_abort (dead b.sockets h) (λ e. refl)
 moves_call p w step host b call answer = moves_not w step host b.endpoints
 
 -- 3. both hosts

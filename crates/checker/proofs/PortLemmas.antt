@@ -42,7 +42,7 @@ use Rattle.spec_tcp.specs.HostTcp.{HostTcp, has_ports, last_from, place_of, at_p
 use Rattle.spec_tcp.specs.HostTcp.{with_endpoint, with_socket, socket_target, if_live, queue_of, dead}
 use Rattle.spec_tcp.specs.Calls.Send.{after_send}
 use Rattle.spec_tcp.specs.Calls.Receive.{after_recv}
-use Rattle.spec_tcp.specs.Calls.Close.{shut_down, after_shut, after_close, after_abort, orphaned, target_gone, after_gone, without_listener}
+use Rattle.spec_tcp.specs.Calls.Close.{shut_down, after_ending, after_shut, after_close, after_abort, orphaned, target_gone, after_gone, without_listener}
 use Rattle.spec_tcp.specs.Calls.Accept.{accepted_from, after_accept}
 use Rattle.spec_tcp.specs.Calls.{change, change_target, after_call}
 use Rattle.spec_tcp.specs.Makes.{endpoint_made, after_making}
@@ -443,8 +443,19 @@ moved_map all a x b l = record {
   sockets = λ n s e. inl (s, e, refl);
 }
 
+moved_shut : (all : List CallDone) (a : Hosts) (x : Host) (b : HostTcp) (n : ℕ) (f : Endpoint → Endpoint)
+    → ((e : Endpoint) → SameEnd e (f e)) → Moved all a x b (after_gone b n f b.sockets)
+moved_shut all a x b n f new =
+    map_or_cases (λ (c : HostTcp). Moved all a x b c) (socket_target b n) b
+    (λ target. record (target_gone b target f) { sockets = b.sockets }) (λ e. moved_not all a x b)
+    (λ target e. go target)
+  where
+    go : (target : SocketTarget) → Moved all a x b (record (target_gone b target f) { sockets = b.sockets })
+    go (ListenerAt l) = moved_map all a x b l
+    go (EndpointAt i) = moved_one all a x b i f new
+
 moved_gone : (all : List CallDone) (a : Hosts) (x : Host) (b : HostTcp) (n : ℕ) (f : Endpoint → Endpoint)
-    → ((e : Endpoint) → SameEnd e (f e)) → Moved all a x b (after_gone b n f)
+    → ((e : Endpoint) → SameEnd e (f e)) → Moved all a x b (after_gone b n f (dead b.sockets n))
 moved_gone all a x b n f new =
     map_or_cases (λ (c : HostTcp). Moved all a x b c) (socket_target b n) b
     (λ target. record (target_gone b target f) { sockets = dead b.sockets n }) (λ e. moved_not all a x b)
@@ -454,10 +465,17 @@ moved_gone all a x b n f new =
     go (ListenerAt l) = moved_dead all a x b (without_listener b l) n (moved_map all a x b l) refl
     go (EndpointAt i) = moved_dead all a x b (with_endpoint b i f) n (moved_one all a x b i f new) refl
 
+shut_end : (e : Endpoint) → SameEnd e (after_shut e)
+shut_end e = go (is_syn_sent e.state)
+  where
+    go : (b : Bool) → SameEnd e (if b then shut_down (record e { stream = record e.stream { ended = true } }) else after_ending e)
+    go true = plain_end e _ refl refl refl
+    go false = plain_end e _ refl refl refl
+
 close_end : (e : Endpoint) → SameEnd e (after_close e)
 close_end e = go (is_syn_sent e.state)
   where
-    go : (b : Bool) → SameEnd e (record (if b then shut_down (record e { stream = record e.stream { ended = true } }) else after_shut e) { closed = true })
+    go : (b : Bool) → SameEnd e (record (if b then shut_down (record e { stream = record e.stream { ended = true } }) else after_ending e) { closed = true })
     go true = plain_end e _ refl refl refl
     go false = plain_end e _ refl refl refl
 
@@ -551,8 +569,7 @@ moved_call p all a x b (calls.Send h bytes) (answers.Given n) known stands liste
     moved_change all a x b h (after_send bytes n) (λ e. plain_end e (after_send bytes n e) refl refl refl)
 moved_call p all a x b (calls.Recv h most) (answers.Bytes bytes) known stands listens opens =
     moved_change all a x b h (after_recv bytes) (λ e. plain_end e (after_recv bytes e) refl refl refl)
-moved_call p all a x b (calls.Shut h) answers.Done known stands listens opens =
-    moved_change all a x b h after_shut (λ e. plain_end e (after_shut e) refl refl refl)
+moved_call p all a x b (calls.Shut h) answers.Done known stands listens opens = moved_shut all a x b h after_shut shut_end
 moved_call p all a x b (calls.Close h) answers.Done known stands listens opens = moved_gone all a x b h after_close close_end
 moved_call p all a x b (calls.Abort h) answers.Done known stands listens opens =
     moved_gone all a x b h after_abort (λ e. plain_end e (after_abort e) refl refl refl)

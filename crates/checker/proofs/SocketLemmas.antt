@@ -6,6 +6,7 @@ use Rattle.std.specs.Option.{option_map_or}
 use Rattle.std.proofs.lemmas.Option.{same_Some}
 use Rattle.std.proofs.lemmas.List.Concat.{flat_map-append}
 use Rattle.std.proofs.lemmas.List.{append-nil}
+use Rattle.case_forms.specs.declared.version.Version.{Version}
 use Rattle.case_forms.specs.declared.trace.Header.{Header}
 use Rattle.case_forms.specs.declared.calls.Host.{Host}
 use Rattle.case_forms.specs.declared.calls.Host.TheVariants.{Zero, One}
@@ -21,7 +22,7 @@ use Rattle.spec_network.specs.HostSteps.{after, after_all, Lawful}
 use Rattle.spec_tcp.specs.declared.endpoint.EndpointId.{EndpointId}
 use Rattle.spec_tcp.specs.declared.endpoint.Endpoint.{Endpoint}
 use Rattle.spec_tcp.specs.declared.endpoint.SocketTarget.TheVariants.{EndpointAt}
-use Rattle.spec_tcp.specs.Calls.Accept.{listener_allows}
+use Rattle.spec_tcp.specs.Calls.Accept.{open_allows}
 use Rattle.spec_tcp.specs.Calls.{is_bad_socket, call_allows}
 use Rattle.spec_tcp.specs.Machine.{tcp, tcp_shape, aim}
 use Rattle.spec_tcp_laws.specs.Runs.{owner, is_socket_of, call_told, call_accepted, call_ended, of_turn, of_effect, told_from, accepted_from, ended_from}
@@ -54,26 +55,27 @@ Owned a n = (x : Host) × (i : ℕ) × (owner (pick a x).body n ≡ Some i)
 owned_later : (a z : Hosts) → Stay a z → (n : ℕ) → Owned a n → Owned z n
 owned_later a z stay n o = (o.0, o.1, stay o.0 n o.1 o.2)
 
-abbrev Allowed : Hosts → Call → Answer → Option Host → Type 0
-Allowed a call answer o = option_map_or (λ host. call_allows (pick a host).body call answer) o (is_bad_socket answer) ≡ true
+abbrev Allowed : Version → Hosts → Call → Answer → Option Host → Type 0
+Allowed v a call answer o = option_map_or (λ host. call_allows v (pick a host).body call answer) o (is_bad_socket answer) ≡ true
 
-sends_at : (a : Hosts) (n : ℕ) (bytes : List ℕ) (count : ℕ) (o : Option Host) → Allowed a (calls.Send n bytes) (answers.Given count) o → Owned a n
-sends_at a n bytes count None may = absurd cc
-sends_at a n bytes count (Some x) may =
-    let y = named (pick a x).body n (calls.Send n bytes) (answers.Given count) may refl (λ queue. refused queue) in
+sends_at : (v : Version) (a : Hosts) (n : ℕ) (bytes : List ℕ) (count : ℕ) (o : Option Host)
+    → Allowed v a (calls.Send n bytes) (answers.Given count) o → Owned a n
+sends_at v a n bytes count None may = absurd cc
+sends_at v a n bytes count (Some x) may =
+    let y = named v (pick a x).body n (calls.Send n bytes) (answers.Given count) may refl refl (λ queue. refused queue) in
     (x, y.0, (owner_of (pick a x).body n (EndpointAt y.0) y.1).0)
   where
-    refused : (queue : List ℕ) → listener_allows queue (calls.Send n bytes) (answers.Given count) ≡ false
+    refused : (queue : List ℕ) → open_allows v queue (calls.Send n bytes) (answers.Given count) ≡ false
     refused [] = refl
     refused (c ∷ queue) = refl
 
-reads_at : (a : Hosts) (n most : ℕ) (bytes : List ℕ) (o : Option Host) → Allowed a (calls.Recv n most) (answers.Bytes bytes) o → Owned a n
-reads_at a n most bytes None may = absurd cc
-reads_at a n most bytes (Some x) may =
-    let y = named (pick a x).body n (calls.Recv n most) (answers.Bytes bytes) may refl (λ queue. refused queue) in
+reads_at : (v : Version) (a : Hosts) (n most : ℕ) (bytes : List ℕ) (o : Option Host) → Allowed v a (calls.Recv n most) (answers.Bytes bytes) o → Owned a n
+reads_at v a n most bytes None may = absurd cc
+reads_at v a n most bytes (Some x) may =
+    let y = named v (pick a x).body n (calls.Recv n most) (answers.Bytes bytes) may refl refl (λ queue. refused queue) in
     (x, y.0, (owner_of (pick a x).body n (EndpointAt y.0) y.1).0)
   where
-    refused : (queue : List ℕ) → listener_allows queue (calls.Recv n most) (answers.Bytes bytes) ≡ false
+    refused : (queue : List ℕ) → open_allows v queue (calls.Recv n most) (answers.Bytes bytes) ≡ false
     refused [] = refl
     refused (c ∷ queue) = refl
 
@@ -89,12 +91,12 @@ number_named a z g stay socket me own n o false is = is_not (is_socket_of a n me
 
 -- 2. what sends on an endpoint's number accepted
 
-accepted_call : (a z : Hosts) (socket : ℕ) (me : EndpointId) → Steady z → Stay a z → owner (pick z me.host).body socket ≡ Some me.number
-    → (call : Call) (answer : Answer) (o : Option Host) → Allowed a call answer o → call_accepted a call answer me ≡ bytes_accepted socket call answer ++ []
-accepted_call a z socket me g stay own (calls.Send n bytes) (answers.Given count) o may =
-    ap (λ (c : Bool). if c then take count bytes else []) (number_named a z g stay socket me own n (sends_at a n bytes count o may) (n == socket) refl)
+accepted_call : (v : Version) (a z : Hosts) (socket : ℕ) (me : EndpointId) → Steady z → Stay a z → owner (pick z me.host).body socket ≡ Some me.number
+    → (call : Call) (answer : Answer) (o : Option Host) → Allowed v a call answer o → call_accepted a call answer me ≡ bytes_accepted socket call answer ++ []
+accepted_call v a z socket me g stay own (calls.Send n bytes) (answers.Given count) o may =
+    ap (λ (c : Bool). if c then take count bytes else []) (number_named a z g stay socket me own n (sends_at v a n bytes count o may) (n == socket) refl)
     ∙ sym (append-nil (if n == socket then take count bytes else []))
-accepted_call a z socket me g stay own call answer o may = refl
+accepted_call v a z socket me g stay own call answer o may = refl
 
 accepted_step : (h : Header) (s : ℕ) (w : World tcp_shape) (z : Hosts) (socket : ℕ) (me : EndpointId) → Steady z
     → Stay w.hosts z → owner (pick z me.host).body socket ≡ Some me.number
@@ -111,7 +113,7 @@ accepted_step h s w z socket me g stay own (Effect t answer) may = go (turn_of t
         ≡ flat_map (λ d. bytes_accepted socket d.call d.answer) (of_turn u [] (λ call. one_done call answer))
     go Idle may = refl
     go (Called call) may =
-        accepted_call w.hosts z socket me g stay own call answer (aim_of (tcp h) w.hosts (aim call))
+        accepted_call h.version w.hosts z socket me g stay own call answer (aim_of (tcp h) w.hosts (aim call))
         (effect_allowed h s w.hosts call answer (aim_of (tcp h) w.hosts (aim call)) may).1
     go (Answered x) may = refl
 
@@ -170,14 +172,14 @@ sender_run h w (x ∷ xs) me f may =
     go (inl e) (inr y) = inr y
     go (inl e) (inl r) = inl (ap (λ (l : List ℕ). l ++ accepted_from h me (after (tcp h) x.moment w x.step) xs) e ∙ r)
 
-reader_call : (a : Hosts) (socket : ℕ) (call : Call) (answer : Answer) (o : Option Host) → Allowed a call answer o
+reader_call : (v : Version) (a : Hosts) (socket : ℕ) (call : Call) (answer : Answer) (o : Option Host) → Allowed v a call answer o
     → (call_told call answer socket ≡ []) ⊎ Owned a socket
-reader_call a socket (calls.Recv n most) (answers.Bytes bytes) o may = go (n == socket) refl
+reader_call v a socket (calls.Recv n most) (answers.Bytes bytes) o may = go (n == socket) refl
   where
     go : (c : Bool) → (n == socket) ≡ c → ((if c then bytes else []) ≡ []) ⊎ Owned a socket
-    go true is = inr (subst (λ k. Owned a k) (number_same n socket is) (reads_at a n most bytes o may))
+    go true is = inr (subst (λ k. Owned a k) (number_same n socket is) (reads_at v a n most bytes o may))
     go false is = inl refl
-reader_call a socket call answer o may = inl refl
+reader_call v a socket call answer o may = inl refl
 
 reader_step : (h : Header) (s : ℕ) (w : World tcp_shape) (socket : ℕ) (step : Step tcp_shape)
     → Permitted (tcp h) s w step
@@ -191,7 +193,7 @@ reader_step h s w socket (Effect t answer) may = go (turn_of t w.threads) may
         → (of_turn u [] (λ call. call_told call answer socket) ≡ []) ⊎ Owned w.hosts socket
     go Idle may = inl refl
     go (Called call) may =
-        reader_call w.hosts socket call answer (aim_of (tcp h) w.hosts (aim call))
+        reader_call h.version w.hosts socket call answer (aim_of (tcp h) w.hosts (aim call))
         (effect_allowed h s w.hosts call answer (aim_of (tcp h) w.hosts (aim call)) may).1
     go (Answered x) may = inl refl
 

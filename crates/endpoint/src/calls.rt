@@ -17,19 +17,19 @@ pub(crate) mod send;
 use crate::calls::close::shut_allows;
 use crate::calls::receive::recv_allows;
 use crate::calls::send::send_allows;
-use case_forms::{Answer, Call, State};
+use case_forms::{Answer, Call, State, Version};
 use spec_tcp::{Endpoint, Fault};
 
-/// Whether a call on a live socket number of an endpoint may have this answer now.
-pub fn endpoint_allows(endpoint: &Endpoint, call: &Call, answer: &Answer) -> bool
-    ensures { result ≡ endpoint_allows endpoint.now call.now answer.now }
+/// Whether a call on a live socket number of an endpoint may have this answer now, in a text of this version.
+pub fn endpoint_allows(version: Version, endpoint: &Endpoint, call: &Call, answer: &Answer) -> bool
+    ensures { result ≡ endpoint_allows version endpoint.now call.now answer.now }
 {
     match call {
         Call::Await(_) => await_allows(endpoint, answer),
         Call::Accept(_) => is_not_connected(answer),
-        Call::Send(_, bytes) => send_allows(endpoint, bytes.as_slice(), answer),
-        Call::Recv(_, most) => recv_allows(endpoint, *most, answer),
-        Call::Shut(_) => shut_allows(endpoint, answer),
+        Call::Send(_, bytes) => send_allows(version, endpoint, bytes.as_slice(), answer),
+        Call::Recv(_, most) => recv_allows(version, endpoint, *most, answer),
+        Call::Shut(_) => shut_allows(version, endpoint, answer),
         Call::Close(_) | Call::Abort(_) => matches!(answer, Answer::Done),
         Call::Status(_) => match answer {
             Answer::State(told) => is_state(*told, endpoint.state),

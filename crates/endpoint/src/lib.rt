@@ -29,7 +29,7 @@ pub use arrives::other_states::ack::may_sample;
 pub use arrives::other_states::admits_connected;
 pub use arrives::syn_sent::{admits_syn_sent, completes_handshake};
 pub use arrives::take_segment;
-pub use calls::accept::{accept, listener_allows};
+pub use calls::accept::{accept, listener_allows, open_shut_allows};
 pub use calls::close::{abort, close, orphan, shut};
 pub use calls::endpoint_allows;
 pub use calls::receive::deliver;

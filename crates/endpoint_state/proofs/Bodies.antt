@@ -6,6 +6,7 @@ use Rattle.std.specs.Option.{option_map_or}
 use Rattle.std.proofs.lemmas.List.{length-map}
 use Rattle.std.proofs.lemmas.List.Elements.{All-map, All-nil, All-weaker}
 use Rattle.case_forms.specs.declared.trace.Header.{Header}
+use Rattle.case_forms.specs.declared.version.Version.{Version}
 use Rattle.case_forms.specs.declared.calls.Host.{Host}
 use Rattle.case_forms.specs.declared.calls.Call.{Call}
 use Rattle.case_forms.specs.declared.calls.Call.TheVariants as calls
@@ -21,6 +22,7 @@ use Rattle.spec_tcp.specs.Signals.{profile_of}
 use Rattle.spec_tcp.specs.declared.endpoint.Endpoint.{Endpoint}
 use Rattle.spec_tcp.specs.declared.endpoint.Emission.{Emission}
 use Rattle.spec_tcp.specs.declared.endpoint.Listener.{Listener}
+use Rattle.spec_tcp.specs.declared.endpoint.Socket.{Socket}
 use Rattle.spec_tcp.specs.declared.endpoint.SocketTarget.{SocketTarget}
 use Rattle.spec_tcp.specs.declared.endpoint.SocketTarget.TheVariants.{ListenerAt, EndpointAt}
 use Rattle.case_forms.specs.declared.steps.TakeChoice.{TakeChoice}
@@ -136,32 +138,32 @@ changed_bounded steps b n f grows k = by (socket_target b n)
     by (Some (ListenerAt l)) = body_later steps b k
     by (Some (EndpointAt i)) = place_bounded steps b i f (λ e there. grows e) k
 
-recv_bounded : (steps : ℕ) (b : HostTcp) (n most : ℕ) (bytes : List ℕ)
-    → call_allows b (calls.Recv n most) (answers.Bytes bytes) ≡ true → IsBoundedBody steps b
+recv_bounded : (v : Version) (steps : ℕ) (b : HostTcp) (n most : ℕ) (bytes : List ℕ)
+    → call_allows v b (calls.Recv n most) (answers.Bytes bytes) ≡ true → IsBoundedBody steps b
     → IsBoundedBody (suc steps) (change b n (after_recv bytes))
-recv_bounded steps b n most bytes allowed k = by (socket_target b n) allowed
+recv_bounded v steps b n most bytes allowed k = by (socket_target b n) allowed
   where
     by : (o : Option SocketTarget)
-        → option_map_or (target_allows b (calls.Recv n most) (answers.Bytes bytes)) o
+        → option_map_or (target_allows v b (calls.Recv n most) (answers.Bytes bytes)) o
         (is_bad_socket (answers.Bytes bytes)) ≡ true
         → IsBoundedBody (suc steps) (option_map_or (change_target b (after_recv bytes)) o b)
     by None h = body_later steps b k
     by (Some (ListenerAt l)) h = body_later steps b k
     by (Some (EndpointAt i)) h =
         place_bounded steps b i (after_recv bytes)
-        (λ e there. after_recv_bounded most bytes steps e
+        (λ e there. after_recv_bounded v most bytes steps e
         (subst (λ (o : Option Endpoint).
-        option_map_or (λ x. endpoint_allows x (calls.Recv n most) (answers.Bytes bytes)) o false ≡ true) there
+        option_map_or (λ x. endpoint_allows v x (calls.Recv n most) (answers.Bytes bytes)) o false ≡ true) there
         h))
         k
 
-gone_bounded : (steps : ℕ) (b : HostTcp) (n : ℕ) (f : Endpoint → Endpoint)
+gone_bounded : (steps : ℕ) (b : HostTcp) (n : ℕ) (f : Endpoint → Endpoint) (sockets : List (ℕ × Socket))
     → ((e : Endpoint) → IsBounded steps e → IsBounded (suc steps) (f e)) → IsBoundedBody steps b
-    → IsBoundedBody (suc steps) (after_gone b n f)
-gone_bounded steps b n f grows k = by (socket_target b n)
+    → IsBoundedBody (suc steps) (after_gone b n f sockets)
+gone_bounded steps b n f sockets grows k = by (socket_target b n)
   where
     -- socket numbers are not spoken of
-    plain : (c : HostTcp) → IsBoundedBody (suc steps) c → IsBoundedBody (suc steps) (record c { sockets = dead b.sockets n })
+    plain : (c : HostTcp) → IsBoundedBody (suc steps) c → IsBoundedBody (suc steps) (record c { sockets = sockets })
     plain c k = record { bounded = k.bounded; endpoints = k.endpoints; listeners = k.listeners }
 
     orphans : (l : ℕ) → IsBoundedBody (suc steps) (without_listener b l)
@@ -179,7 +181,7 @@ gone_bounded steps b n f grows k = by (socket_target b n)
           listeners = omega arith;
         }
 
-    by : (o : Option SocketTarget) → IsBoundedBody (suc steps) (option_map_or (λ target. record (target_gone b target f) { sockets = dead b.sockets n }) o b)
+    by : (o : Option SocketTarget) → IsBoundedBody (suc steps) (option_map_or (λ target. record (target_gone b target f) { sockets = sockets }) o b)
     by None = body_later steps b k
     by (Some (ListenerAt l)) = plain (without_listener b l) (orphans l)
     by (Some (EndpointAt i)) = plain (with_endpoint b i f) (place_bounded steps b i f (λ e there. grows e) k)
@@ -224,23 +226,26 @@ socket_bounded steps b c e l k = record {
   listeners = subst (λ (ls : List Listener). length ls ≤ steps) l k.listeners;
 }
 
-call_bounded : (p : Profile) (steps : ℕ) (b : HostTcp) (call : Call) (answer : Answer) → IsSmallAnswer answer → call_allows b call answer ≡ true
+call_bounded : (v : Version) (p : Profile) (steps : ℕ) (b : HostTcp) (call : Call) (answer : Answer) → IsSmallAnswer answer → call_allows v b call answer ≡ true
     → IsBoundedBody steps b → IsBoundedBody (suc steps) (after_call p b call answer)
-call_bounded p steps b (calls.Listen host port backlog) (answers.Given n) small allowed k =
+call_bounded v p steps b (calls.Listen host port backlog) (answers.Given n) small allowed k =
     let l : Listener = record { port = port; backlog = backlog; is_open = true; queue = [] } in
     socket_bounded (suc steps) (record b { listeners = b.listeners ++ l ∷ [] }) _ refl refl (listened_bounded steps b l k)
-call_bounded p steps b (calls.Connect host lport rport) (answers.Given n) small allowed k =
+call_bounded v p steps b (calls.Connect host lport rport) (answers.Given n) small allowed k =
     let e = new_endpoint lport rport None states.SynSent p in
     socket_bounded (suc steps) (record b { endpoints = b.endpoints ++ e ∷ [] }) _ refl refl
     (joins_bounded steps b e (opened_bounded p lport rport (suc steps)) k)
-call_bounded p steps b (calls.Accept h) (answers.Given n) small allowed k = accept_bounded steps b n (socket_target b h) k
-call_bounded p steps b (calls.Send h bytes) (answers.Given n) small allowed k =
+call_bounded v p steps b (calls.Accept h) (answers.Given n) small allowed k = accept_bounded steps b n (socket_target b h) k
+call_bounded v p steps b (calls.Send h bytes) (answers.Given n) small allowed k =
     changed_bounded steps b h (after_send bytes n) (after_send_bounded bytes n small steps) k
-call_bounded p steps b (calls.Recv h most) (answers.Bytes bytes) small allowed k = recv_bounded steps b h most bytes allowed k
-call_bounded p steps b (calls.Shut h) answers.Done small allowed k = changed_bounded steps b h after_shut (after_shut_bounded steps) k
-call_bounded p steps b (calls.Close h) answers.Done small allowed k = gone_bounded steps b h after_close (after_close_bounded steps) k
-call_bounded p steps b (calls.Abort h) answers.Done small allowed k = gone_bounded steps b h after_abort (after_abort_bounded steps) k
-call_bounded p steps b _ _ small allowed k = body_later steps b k
+call_bounded v p steps b (calls.Recv h most) (answers.Bytes bytes) small allowed k = recv_bounded v steps b h most bytes allowed k
+call_bounded v p steps b (calls.Shut h) answers.Done small allowed k =
+    gone_bounded steps b h after_shut b.sockets (after_shut_bounded steps) k
+call_bounded v p steps b (calls.Close h) answers.Done small allowed k =
+    gone_bounded steps b h after_close (dead b.sockets h) (after_close_bounded steps) k
+call_bounded v p steps b (calls.Abort h) answers.Done small allowed k =
+    gone_bounded steps b h after_abort (dead b.sockets h) (after_abort_bounded steps) k
+call_bounded v p steps b _ _ small allowed k = body_later steps b k
 
 -- 3. segments
 
@@ -276,7 +281,7 @@ act_bounded : (h : Header) (me : Host) (moment steps : ℕ) (b : HostTcp) (act :
     → IsBoundedBody (suc steps) (act_after h me moment b act)
 act_bounded h me moment steps b (Calls call answer) small permitted k =
     let all = none_all (act_rules h me moment b (Calls call answer)) permitted in
-    call_bounded (profile_of h) steps b call answer small (not_false (call_allows b call answer) all.0) k
+    call_bounded h.version (profile_of h) steps b call answer small (not_false (call_allows h.version b call answer) all.0) k
 act_bounded h me moment steps b (Makes m) small permitted k =
     ports_bounded steps b m.lport m.rport (λ e. after_making e m moment) (after_making_bounded m moment steps) k
 act_bounded h me moment steps b (Takes how m) small permitted k = taking_bounded h how m moment steps b (taker b m) small.ack k

@@ -27,7 +27,7 @@ use Rattle.endpoint_state.proofs.Progresses.{Hosts_, Threads_, shown, plus_one}
 -- the least rule that is broken, by two questions
 pub call_refused : (h : Header) (moment : ℕ) (hosts : Hosts_) (call : Call) (answer : Answer) (host : Option Host)
     → first_broken (call_rules (tcp h) moment hosts call answer host)
-    ≡ (if gives_again hosts (gives call answer) then Some rules.Socket else if allowed_at hosts call answer host
+    ≡ (if gives_again hosts (gives call answer) then Some rules.Socket else if allowed_at h.version hosts call answer host
     then None else Some rules.CallAnswer)
 call_refused h moment hosts call answer None = by (gives call answer) (is_bad_socket answer)
   where
@@ -48,7 +48,7 @@ call_refused h moment hosts call answer None = by (gives call answer) (is_bad_so
         ≡ (if gives_again hosts o then Some rules.Socket else if c then None else Some rules.CallAnswer)
     by None c = alone c
     by (Some n) c = numbers (given hosts.zero.body n) (given hosts.one.body n) c
-call_refused h moment hosts call answer (Some host) = by (gives call answer) (call_allows (pick hosts host).body call answer)
+call_refused h moment hosts call answer (Some host) = by (gives call answer) (call_allows h.version (pick hosts host).body call answer)
   where
     numbers : (a b c : Bool)
         → first_broken ((rules.Socket, a) ∷ (rules.Socket, b) ∷ (rules.CallAnswer, not c) ∷ [])
@@ -70,9 +70,9 @@ call_refused h moment hosts call answer (Some host) = by (gives call answer) (ca
 
 -- a call without a broken rule is allowed by the host that it means
 pub call_is_allowed : (h : Header) (moment : ℕ) (hosts : Hosts_) (call : Call) (answer : Answer) (host : Host)
-    → first_broken (call_rules (tcp h) moment hosts call answer (Some host)) ≡ None → call_allows (pick hosts host).body call answer ≡ true
+    → first_broken (call_rules (tcp h) moment hosts call answer (Some host)) ≡ None → call_allows h.version (pick hosts host).body call answer ≡ true
 call_is_allowed h moment hosts call answer host none =
-    by (call_allows (pick hosts host).body call answer)
+    by (call_allows h.version (pick hosts host).body call answer)
     ((none_both (fresh_rules (tcp h) hosts (gives call answer)) _ none).1)
   where
     by : (b : Bool) → first_broken ((rules.CallAnswer, not b) ∷ []) ≡ None → b ≡ true

@@ -3,6 +3,7 @@ use Rattle.std.proofs.Common.{◌≡◌, ℕ, suc, ◌^◌, ◌<◌, Bool, true,
 use Rattle.std.specs.Prelude.{◌==◌, ◌&&◌, nat_le, if◌then◌else◌}
 use Rattle.std.specs.Option.{option_map_or}
 use Rattle.std.proofs.lemmas.List.{length-append, length-take}
+use Rattle.case_forms.specs.declared.version.Version.{Version}
 use Rattle.case_forms.specs.declared.calls.State.{State}
 use Rattle.case_forms.specs.declared.calls.State.TheVariants as states
 use Rattle.case_forms.specs.declared.calls.Answer.TheVariants as answers
@@ -13,7 +14,7 @@ use Rattle.spec_tcp.specs.declared.endpoint.Endpoint.{Endpoint}
 use Rattle.case_forms.specs.States.{is_closed, is_syn_sent}
 use Rattle.spec_tcp.specs.Calls.Receive.{recv_allows, after_recv}
 use Rattle.spec_tcp.specs.Calls.Send.{after_send}
-use Rattle.spec_tcp.specs.Calls.Close.{shut_down, ended_state, after_shut, after_close, after_abort, orphaned}
+use Rattle.spec_tcp.specs.Calls.Close.{shut_down, ended_state, after_ending, after_shut, after_close, after_abort, orphaned}
 use Rattle.case_forms.specs.declared.steps.SegmentPlan.{SegmentPlan}
 use Rattle.spec_tcp.specs.Makes.{endpoint_made, after_making}
 use Rattle.case_forms.specs.declared.taken_line.Expired.{Expired}
@@ -46,8 +47,8 @@ ended_closed states.Established = refl
 ended_closed states.CloseWait = refl
 ended_closed _ = refl
 
-shut_sending : (steps : ℕ) (e : Endpoint) → IsBounded steps e → IsBounded steps (after_shut e)
-shut_sending steps e b =
+ending_sending : (steps : ℕ) (e : Endpoint) → IsBounded steps e → IsBounded steps (after_ending e)
+ending_sending steps e b =
     record {
       snd_una = b.snd_una;
       counts = b.counts;
@@ -100,11 +101,13 @@ either : (steps : ℕ) (c : Bool) (x y : Endpoint) → IsBounded steps x → IsB
 either steps true x y p q = p
 either steps false x y p q = q
 
-close_bounded : (steps : ℕ) (e : Endpoint) → IsBounded steps e → IsBounded steps (after_close e)
-close_bounded steps e b =
+shut_sending : (steps : ℕ) (e : Endpoint) → IsBounded steps e → IsBounded steps (after_shut e)
+shut_sending steps e b =
     let gone : Endpoint = record e { stream = record e.stream { ended = true } } in
-    closing steps (if is_syn_sent e.state then shut_down gone else after_shut e)
-    (either steps (is_syn_sent e.state) (shut_down gone) (after_shut e) (shut steps gone (ending steps e b)) (shut_sending steps e b))
+    either steps (is_syn_sent e.state) (shut_down gone) (after_ending e) (shut steps gone (ending steps e b)) (ending_sending steps e b)
+
+close_bounded : (steps : ℕ) (e : Endpoint) → IsBounded steps e → IsBounded steps (after_close e)
+close_bounded steps e b = closing steps (after_shut e) (shut_sending steps e b)
 
 abort_bounded : (steps : ℕ) (e : Endpoint) → IsBounded steps e → IsBounded steps (after_abort e)
 abort_bounded steps e b = due steps (shut_down e) _ (shut steps e b)
@@ -161,15 +164,16 @@ third_false true false e = cc
 third_false false c e = cc
 
 -- where nothing was taken no bytes are given
-empty_gives : (e : Endpoint) (most : ℕ) (bytes : List ℕ) → e.stream.receive ≡ received.empty → recv_allows e most (answers.Bytes bytes) ≡ true → ⊥
-empty_gives e most [] none h = cc
-empty_gives e most (x ∷ bytes) none h =
+empty_gives : (v : Version) (e : Endpoint) (most : ℕ) (bytes : List ℕ) → e.stream.receive ≡ received.empty
+    → recv_allows v e most (answers.Bytes bytes) ≡ true → ⊥
+empty_gives v e most [] none h = cc
+empty_gives v e most (x ∷ bytes) none h =
     third_false (nat_le 1 (length (x ∷ bytes))) (nat_le (length (x ∷ bytes)) most)
-    (subst (λ r. recv_allows (record e { stream = record e.stream { receive = r } }) most (answers.Bytes (x ∷ bytes)) ≡ true) none h)
+    (subst (λ r. recv_allows v (record e { stream = record e.stream { receive = r } }) most (answers.Bytes (x ∷ bytes)) ≡ true) none h)
 
-pub after_recv_bounded : (most : ℕ) (bytes : List ℕ) (steps : ℕ) (e : Endpoint)
-    → recv_allows e most (answers.Bytes bytes) ≡ true → IsBounded steps e → IsBounded (suc steps) (after_recv bytes e)
-after_recv_bounded most bytes steps e allowed b =
+pub after_recv_bounded : (v : Version) (most : ℕ) (bytes : List ℕ) (steps : ℕ) (e : Endpoint)
+    → recv_allows v e most (answers.Bytes bytes) ≡ true → IsBounded steps e → IsBounded (suc steps) (after_recv bytes e)
+after_recv_bounded v most bytes steps e allowed b =
     let later = bounded_later steps e b in
     record {
       snd_una = b.snd_una;
@@ -178,7 +182,7 @@ after_recv_bounded most bytes steps e allowed b =
       backoffs = later.backoffs;
       accepted = later.accepted;
       met = b.met;
-      unmet = λ sent. absurd (empty_gives e most bytes (b.unmet sent) allowed);
+      unmet = λ sent. absurd (empty_gives v e most bytes (b.unmet sent) allowed);
     }
 
 -- 2. making, timers, recovery

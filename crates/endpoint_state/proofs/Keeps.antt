@@ -12,7 +12,7 @@ use Rattle.case_forms.specs.States.{is_syn_sent}
 use Rattle.spec_tcp.specs.Bounds.{HasRoom}
 use Rattle.spec_tcp.specs.Calls.Send.{after_send}
 use Rattle.spec_tcp.specs.Calls.Receive.{after_recv}
-use Rattle.spec_tcp.specs.Calls.Close.{shut_down, after_shut, after_close, after_abort}
+use Rattle.spec_tcp.specs.Calls.Close.{shut_down, after_ending, after_shut, after_close, after_abort}
 use Rattle.spec_tcp.specs.Makes.{endpoint_made, after_making}
 use Rattle.spec_tcp.specs.Arrives.OtherStates.{taken}
 use Rattle.spec_tcp.specs.Arrives.OtherStates.Reset.{was_reset}
@@ -66,12 +66,16 @@ keeps_taken h e how m moment = by m.flags.rst (is_syn_sent e.state)
     by false false = record { lport = refl; rport = refl; listener = λ l is. is }
 
 pub keeps_shut : (e : Endpoint) → Keeps e (after_shut e)
-keeps_shut e = record { lport = refl; rport = refl; listener = λ l is. is }
+keeps_shut e = by (is_syn_sent e.state)
+  where
+    by : (b : Bool) → Keeps e (if b then shut_down (record e { stream = record e.stream { ended = true } }) else after_ending e)
+    by true = record { lport = refl; rport = refl; listener = λ l is. is }
+    by false = record { lport = refl; rport = refl; listener = λ l is. is }
 
 pub keeps_close : (e : Endpoint) → Keeps e (after_close e)
 keeps_close e = by (is_syn_sent e.state)
   where
-    by : (b : Bool) → Keeps e (record (if b then shut_down (record e { stream = record e.stream { ended = true } }) else after_shut e) { closed = true })
+    by : (b : Bool) → Keeps e (record (if b then shut_down (record e { stream = record e.stream { ended = true } }) else after_ending e) { closed = true })
     by true = record { lport = refl; rport = refl; listener = λ l is. is }
     by false = record { lport = refl; rport = refl; listener = λ l is. is }
 

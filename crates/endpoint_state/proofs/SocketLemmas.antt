@@ -6,6 +6,7 @@ use Rattle.std.specs.List.{All}
 use Rattle.std.specs.Option.{option_map_or}
 use Rattle.indexmap.specs.IndexMap.{insert_entry}
 use Rattle.std.proofs.lemmas.Option.{none-some, same_Some}
+use Rattle.case_forms.specs.declared.version.Version.{Version}
 use Rattle.case_forms.specs.declared.calls.Call.TheVariants as calls
 use Rattle.case_forms.specs.declared.calls.Answer.TheVariants as answers
 use Rattle.case_forms.specs.declared.calls.State.TheVariants as states
@@ -88,13 +89,14 @@ both true b is = is
 both false b is = absurd (true≢false (sym is))
 
 -- bytes that a `recv` may give wait
-pub allowed_wait : (b : HostTcp) (n most : ℕ) (bytes : List ℕ) → call_allows b (calls.Recv n most) (answers.Bytes bytes) ≡ true → AreWaiting b n bytes
-allowed_wait b n most bytes allowed i e named at =
-    let one : target_allows b (calls.Recv n most) (answers.Bytes bytes) (EndpointAt i) ≡ true =
+pub allowed_wait : (v : Version) (b : HostTcp) (n most : ℕ) (bytes : List ℕ) → call_allows v b (calls.Recv n most) (answers.Bytes bytes) ≡ true
+    → AreWaiting b n bytes
+allowed_wait v b n most bytes allowed i e named at =
+    let one : target_allows v b (calls.Recv n most) (answers.Bytes bytes) (EndpointAt i) ≡ true =
     sym (ap (λ (o : Option SocketTarget).
-    option_map_or (target_allows b (calls.Recv n most) (answers.Bytes bytes)) o
+    option_map_or (target_allows v b (calls.Recv n most) (answers.Bytes bytes)) o
     (is_bad_socket (answers.Bytes bytes))) named) ∙ allowed in
-    let two : endpoint_allows e (calls.Recv n most) (answers.Bytes bytes) ≡ true =
+    let two : endpoint_allows v e (calls.Recv n most) (answers.Bytes bytes) ≡ true =
     sym (ap (λ (o : Option Endpoint).
-    option_map_or (λ x. endpoint_allows x (calls.Recv n most) (answers.Bytes bytes)) o false) at) ∙ one in
+    option_map_or (λ x. endpoint_allows v x (calls.Recv n most) (answers.Bytes bytes)) o false) at) ∙ one in
     starts_within bytes (waiting e.stream.receive) (both (nat_le 1 (length bytes) && nat_le (length bytes) most) (starts bytes (waiting e.stream.receive)) two)

@@ -4,6 +4,7 @@ use Rattle.std.specs.Option.{option_map_or}
 use Rattle.case_forms.specs.declared.calls.Host.{Host}
 use Rattle.case_forms.specs.declared.calls.Call.{Call}
 use Rattle.case_forms.specs.declared.calls.Answer.{Answer}
+use Rattle.case_forms.specs.declared.version.Version.{Version}
 use Rattle.verdict.specs.declared.rule.Rule.{Rule}
 use Rattle.spec_network.specs.Tables.{Both, pick}
 use Rattle.spec_network.specs.Hosts.{HostState}
@@ -26,6 +27,6 @@ abbrev pub gives_again : Both (HostState tcp_shape) → Option ℕ → Bool
 gives_again hosts number = option_map_or (λ n. given hosts.zero.body n || given hosts.one.body n) number false
 
 -- the host that the call means allows the answer; if it means none, the answer says so
-abbrev pub allowed_at : Both (HostState tcp_shape) → Call → Answer → Option Host → Bool
-allowed_at hosts call answer host =
-    option_map_or (λ h. call_allows (pick hosts h).body call answer) host (is_bad_socket answer)
+abbrev pub allowed_at : Version → Both (HostState tcp_shape) → Call → Answer → Option Host → Bool
+allowed_at v hosts call answer host =
+    option_map_or (λ h. call_allows v (pick hosts h).body call answer) host (is_bad_socket answer)

@@ -15,6 +15,7 @@ ghost use Rattle.spec_tcp.specs.Wire.{in_rules, out_rules};
 ghost use Rattle.spec_tcp.specs.HostTcp.{given};
 ghost use Rattle.spec_tcp.specs.Makes.{making_rules};
 ghost use Rattle.spec_tcp.specs.Calls.{call_allows, after_call};
+ghost use Rattle.spec_tcp.specs.Signals.{profile_of};
 ghost use Rattle.spec_tcp.specs.Machine.{act_makes, rules_at, tcp};
 ghost use Rattle.spec_tcp.specs.Machine as acts;
 ghost use Rattle.spec_tcp.specs.Forgetting.{forget_host};
@@ -39,7 +40,6 @@ use std::alloc::Global;
 use std::marker::Model;
 use tables::Table;
 use verdict::Rule;
-use window_rules::Profile;
 
 /// One host's state: its endpoints, listeners and sockets, the segments it made by number, those it sent by line, and
 /// its inbox by line of arrival, with None once a segment no longer waits.
@@ -233,18 +233,18 @@ pub(crate) fn recover(
 /// A call that may have this answer has its effect.
 pub(crate) fn do_call(
     alloc: Global,
-    profile: Profile,
+    header: &Header,
     host: &mut HostState,
     call: &Call,
     answer: &Answer,
 ) -> Result<(), OutOfMemory>
     requires ready { IsReady host.old }
-    requires allowed { call_allows host.old.body call.now answer.now ≡ true }
+    requires allowed { call_allows header.now.version host.old.body call.now answer.now ≡ true }
     ensures ok { OnOk result (host.new ≡ forget_host
-        (record host.old { body = after_call profile host.old.body call.now answer.now })) }
+        (record host.old { body = after_call (profile_of header.now) host.old.body call.now answer.now })) }
     ensures err { OnErr result (host.new ≡ host.old) }
 {
-    host.body.do_call(alloc, profile, call, answer)
+    host.body.do_call(alloc, header, call, answer)
 }
 
 impl HostState {
@@ -295,11 +295,11 @@ impl HostState {
         self.body.is_given(number)
     }
 
-    /// Whether a call may have this answer.
-    pub(crate) fn allows(&self, call: &Call, answer: &Answer) -> bool
-        ensures { result ≡ call_allows self.now.body call.now answer.now }
+    /// Whether a call may have this answer in a text of this version.
+    pub(crate) fn allows(&self, version: Version, call: &Call, answer: &Answer) -> bool
+        ensures { result ≡ call_allows version self.now.body call.now answer.now }
     {
-        self.body.allows(call, answer)
+        self.body.allows(version, call, answer)
     }
 
     /// Whether the segment to be sent is the one that was made under this number. The error is the first broken rule.

@@ -7,17 +7,17 @@ ghost use Rattle.spec_network.specs.Tables.{Both, other, pick, with_host};
 ghost use Rattle.spec_network.specs.HostSteps.{empty_host};
 ghost use Rattle.spec_tcp.specs.Machine.{tcp};
 ghost use Rattle.spec_tcp.specs.Calls.{after_call, call_allows};
+ghost use Rattle.spec_tcp.specs.Signals.{profile_of};
 ghost use Rattle.endpoint_state.specs.Sides.{AreReady, forget_hosts};
 ghost use Rattle.endpoint_state.specs.Lending.{LendsSide};
 ghost use Rattle.endpoint_state.specs.Worlds.{hosts_brought};
 
 use crate::host::{self, HostState};
-use case_forms::{Answer, Call, Host};
+use case_forms::{Answer, Call, Header, Host};
 use segment::OutOfMemory;
 use spec_tcp::Emission;
 use std::alloc::Global;
 use std::marker::Model;
-use window_rules::Profile;
 
 /// The two hosts.
 #[derive(Drop)]
@@ -89,19 +89,20 @@ impl Hosts {
     pub(crate) fn do_call(
         &mut self,
         alloc: Global,
-        profile: Profile,
+        header: &Header,
         host: Host,
         call: &Call,
         answer: &Answer,
     ) -> Result<(), OutOfMemory>
         requires ready { AreReady self.old }
-        requires allowed { call_allows (pick self.old host).body call.now answer.now ≡ true }
+        requires allowed { call_allows header.now.version (pick self.old host).body call.now answer.now ≡ true }
         ensures ok { OnOk result (self.new
-            ≡ forget_hosts (with_host self.old host (record
-            (pick self.old host) { body = after_call profile (pick self.old host).body call.now answer.now }))) }
+            ≡ forget_hosts (with_host self.old host (record (pick self.old host) {
+              body = after_call (profile_of header.now) (pick self.old host).body call.now answer.now;
+            }))) }
         ensures err { OnErr result (self.new ≡ self.old) }
     {
-        host::do_call(alloc, profile, self.side(host), call, answer)
+        host::do_call(alloc, header, self.side(host), call, answer)
     }
 
     /// Both hosts at the start.

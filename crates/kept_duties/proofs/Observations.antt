@@ -1,6 +1,6 @@
 -- What a step shows of inboxes and of segments that were built, and what it makes of the model's tables.
 use Rattle.std.proofs.Common.{◌≡◌, ℕ, suc, ◌⊎◌, inl, inr, Bool, true, false, List, Option, Some, None, refl, ap, sym, subst, ◌∙◌, cond, nat_eq, arith}
-use Rattle.std.specs.Prelude.{if◌then◌else◌, is_some}
+use Rattle.std.specs.Prelude.{◌&&◌, if◌then◌else◌, is_some, not}
 use Rattle.std.specs.Map.{lookup}
 use Rattle.std.proofs.lemmas.Bool.Decides.{nat_tests}
 use Rattle.std.proofs.lemmas.Option.{none-some, same_Some, some_pair_parts}
@@ -22,7 +22,7 @@ use Rattle.spec_network.specs.Hosts.{At}
 use Rattle.spec_network.specs.Hosts.{Turn, Idle, Called, Answered, turn_of}
 use Rattle.spec_network.specs.Tables.{Made, gone_out, on, other, pick, settled, unsent, waiting}
 use Rattle.spec_network.proofs.Entries.{lookup_insert}
-use Rattle.spec_tcp.specs.HostTcp.{HostTcp, socket_target}
+use Rattle.spec_tcp.specs.HostTcp.{HostTcp, has_ended, socket_target}
 use Rattle.spec_tcp.specs.Machine as acts
 use Rattle.spec_tcp.specs.Machine.{Act, Calls, act_after, act_makes, tcp, tcp_shape, aim}
 use Rattle.spec_tcp.specs.declared.endpoint.Emission.{Emission}
@@ -70,7 +70,7 @@ quiet_on None f each = record { inbox_change = refl; built_change = refl }
 quiet_on (Some x) f each = each x
 
 quiet_close : (host : Host) (b : HostTcp) (aborts : Bool) (answer : Answer) (target : SocketTarget) → Quiet (observe_close host b aborts answer target)
-quiet_close host b aborts answer (ListenerAt l) = by (is_done answer)
+quiet_close host b aborts answer (ListenerAt l) = by (is_done answer && not (has_ended b l))
   where
     by : (d : Bool) → Quiet (if d then record unseen { queueing = queueing.Closes host l } else unseen)
     by true = record { inbox_change = refl; built_change = refl }
@@ -90,7 +90,7 @@ quiet_call host b (calls.Connect x lport rport) (answers.Given n) = record { inb
 quiet_call host b (calls.Connect x lport rport) answer = record { inbox_change = refl; built_change = refl }
 quiet_call host b (calls.Accept n) answer = quiet_on (socket_target b n) (observe_accept host b answer) (quiet_accept host b answer)
 quiet_call host b (calls.Send n bytes) answer = quiet_on (socket_target b n) (observe_other host b) (quiet_other host b)
-quiet_call host b (calls.Shut n) answer = quiet_on (socket_target b n) (observe_other host b) (quiet_other host b)
+quiet_call host b (calls.Shut n) answer = quiet_on (socket_target b n) (observe_close host b false answer) (quiet_close host b false answer)
 quiet_call host b (calls.Close n) answer = quiet_on (socket_target b n) (observe_close host b false answer) (quiet_close host b false answer)
 quiet_call host b (calls.Abort n) answer =
     quiet_on (socket_target b n) (observe_close host b (is_done answer) answer) (quiet_close host b (is_done answer) answer)

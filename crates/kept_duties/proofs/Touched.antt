@@ -1,7 +1,7 @@
 -- What a step does at one endpoint, and what the endpoint owes then.
 use Rattle.std.proofs.Common.{◌≡◌, ℕ, suc, ◌⊎◌, inl, inr, Bool, true, false, List, [], ◌∷◌, ◌++◌, length, Option, Some, None, refl, ap, sym, subst, ◌∙◌, cond}
 use Rattle.std.proofs.Common.{nat_eq, arith}
-use Rattle.std.specs.Prelude.{◌||◌, if◌then◌else◌, slice_get, unwrap_or}
+use Rattle.std.specs.Prelude.{◌&&◌, ◌||◌, if◌then◌else◌, not, slice_get, unwrap_or}
 use Rattle.std.specs.Map.{lookup}
 use Rattle.std.specs.List.{AllByRecursion}
 use Rattle.std.specs.Option.{option_map, option_map_or}
@@ -34,7 +34,7 @@ use Rattle.spec_network.proofs.Entries.{lookup_insert}
 use Rattle.spec_tcp.specs.Arrives.{AtEndpoint, AtListener, Nobody, Taker, after_taking, taker}
 use Rattle.spec_tcp.specs.Arrives.Listen.{child}
 use Rattle.spec_tcp.specs.Endpoints.{new_endpoint}
-use Rattle.spec_tcp.specs.HostTcp.{place_of, socket_target}
+use Rattle.spec_tcp.specs.HostTcp.{has_ended, place_of, socket_target}
 use Rattle.spec_tcp.specs.Machine.{Calls, Expiring, act_after, aim, tcp, tcp_shape}
 use Rattle.spec_tcp.specs.Signals.{profile_of}
 use Rattle.spec_tcp.specs.declared.endpoint.Emission.{Emission}
@@ -182,7 +182,7 @@ close_before : (w : World tcp_shape) (step : Step tcp_shape) (host : Host) (abor
     → (thread : ℕ) × (a : Answer) × (step ≡ Effect thread a) → (target : SocketTarget)
     → AsBefore w step (observe_close host (pick w.hosts host).body aborts answer target).touched
 close_before w step host aborts answer did (EndpointAt i) = place_before w step host _ i did (λ p e. absurd cc)
-close_before w step host aborts answer did (ListenerAt l) = by (is_done answer)
+close_before w step host aborts answer did (ListenerAt l) = by (is_done answer && not (has_ended (pick w.hosts host).body l))
   where
     by : (d : Bool) → AsBefore w step (if d then record unseen { queueing = queueing.Closes host l } else unseen).touched
     by true = tt
@@ -225,8 +225,8 @@ call_before h w thread host (calls.Send n bytes) answer turn aims =
     socket_target_before w (Effect thread answer) (socket_target (pick w.hosts host).body n) (observe_other host (pick w.hosts host).body)
     (other_before w (Effect thread answer) host (thread, answer, refl))
 call_before h w thread host (calls.Shut n) answer turn aims =
-    socket_target_before w (Effect thread answer) (socket_target (pick w.hosts host).body n) (observe_other host (pick w.hosts host).body)
-    (other_before w (Effect thread answer) host (thread, answer, refl))
+    socket_target_before w (Effect thread answer) (socket_target (pick w.hosts host).body n) (observe_close host (pick w.hosts host).body false answer)
+    (close_before w (Effect thread answer) host false answer (thread, answer, refl))
 call_before h w thread host (calls.Close n) answer turn aims =
     socket_target_before w (Effect thread answer) (socket_target (pick w.hosts host).body n) (observe_close host (pick w.hosts host).body false answer)
     (close_before w (Effect thread answer) host false answer (thread, answer, refl))

@@ -12,6 +12,7 @@ use Rattle.case_forms.specs.declared.calls.Call.{Call}
 use Rattle.case_forms.specs.declared.calls.Call.TheVariants as calls
 use Rattle.case_forms.specs.declared.calls.Host.{Host}
 use Rattle.case_forms.specs.declared.trace.Header.{Header}
+use Rattle.case_forms.specs.declared.version.Version.TheVariants.{Six}
 use Rattle.spec_network.specs.HostRules.{aim_of}
 use Rattle.spec_network.specs.Hosts.{ThatSocket, World}
 use Rattle.spec_network.specs.Tables.{Both, on, pick, settled, waiting, with_host}
@@ -67,9 +68,9 @@ call_for awaits.Bytes = calls.Recv 0 0
 call_for awaits.Connection = calls.Await 0
 call_for awaits.Child = calls.Accept 0
 
--- such a call may be answered `again`
+-- such a call may be answered `again`, in texts that judge answers: from version 6 on
 abbrev pub may_wait : HostTcp → SocketTarget → Awaited → Bool
-may_wait b target awaited = target_allows b (call_for awaited) answers.Again target
+may_wait b target awaited = target_allows Six b (call_for awaited) answers.Again target
 
 abbrev pub waitable : HostTcp → SocketTarget → Waitable
 waitable b target = record {
@@ -162,12 +163,16 @@ answering h w thread answer call = call_change.Nothing
 abbrev pub closing_on : Host → HostTcp → (socket : ℕ) → SocketChange
 closing_on host b n = option_map_or (socket_change.Closes host) (socket_target b n) socket_change.Nothing
 
+abbrev pub shutting_on : Host → HostTcp → (socket : ℕ) → SocketChange
+shutting_on host b n = option_map_or (socket_change.Shuts host) (socket_target b n) socket_change.Nothing
+
 abbrev pub closing : Host → HostTcp → Answer → Call → SocketChange
+closing host b answers.Done (calls.Shut n) = shutting_on host b n
 closing host b answers.Done (calls.Close n) = closing_on host b n
 closing host b answers.Done (calls.Abort n) = closing_on host b n
 closing host b answer call = socket_change.Nothing
 
--- the effect of a call gives a socket number, or ends one
+-- the effect of a call gives a socket number, ends one, or shuts what one names
 abbrev pub socket_changing : Header → World tcp_shape → Answer → Call → SocketChange
 socket_changing h w answer call =
     on (aim_of (tcp h) w.hosts (aim call)) socket_change.Nothing
@@ -221,7 +226,7 @@ abbrev pub answer_seen : World tcp_shape → (moment : ℕ) → CallChange → W
 answer_seen w moment (call_change.Answers thread (Some x)) a = seen_again w moment x.host x.target a
 answer_seen w moment change a = a
 
--- a socket number is returned, or isn't live any more
+-- a socket number is returned, or isn't live any more; after `shut` it is, and no call on a listener waits then
 abbrev pub socket_given : World tcp_shape → (moment : ℕ) → Host → Option SocketTarget → Waits → Waits
 socket_given w moment host target a =
     on target a
@@ -231,6 +236,7 @@ abbrev pub socket_noted : World tcp_shape → (moment : ℕ) → SocketChange �
 socket_noted w moment socket_change.Nothing a = a
 socket_noted w moment (socket_change.Gives host n) a =
     socket_given w moment host (socket_target (pick w.hosts host).body n) a
+socket_noted w moment (socket_change.Shuts host target) a = seen_again w moment host target a
 socket_noted w moment (socket_change.Closes host target) a = with_ready a host target None
 
 -- all of it, if the step leads to this world

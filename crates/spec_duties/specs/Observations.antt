@@ -28,7 +28,7 @@ use Rattle.spec_tcp.specs.declared.endpoint.Emission.{Emission}
 use Rattle.spec_tcp.specs.declared.endpoint.Endpoint.{Endpoint}
 use Rattle.spec_tcp.specs.declared.endpoint.SocketTarget.{SocketTarget}
 use Rattle.spec_tcp.specs.declared.endpoint.SocketTarget.TheVariants.{ListenerAt, EndpointAt}
-use Rattle.spec_tcp.specs.HostTcp.{HostTcp, place_of, socket_target, queue_of}
+use Rattle.spec_tcp.specs.HostTcp.{HostTcp, has_ended, place_of, socket_target, queue_of}
 use Rattle.spec_tcp.specs.Machine.{tcp, tcp_shape, aim}
 use Rattle.spec_duties.specs.Views.{View, view_of, unborn}
 use Rattle.spec_duties.specs.Events as events
@@ -213,9 +213,10 @@ abbrev pub observe_accept : Host → HostTcp → Answer → SocketTarget → Obs
 observe_accept host b (answers.Given n) (ListenerAt l) = record unseen { queueing = accepting host b l (queue_of b l) }
 observe_accept host b answer target = unseen
 
+-- a listener ends once: `close` of one that `shut` ended shows nothing more
 abbrev pub observe_close : Host → HostTcp → (aborts : Bool) → Answer → SocketTarget → Observation
 observe_close host b aborts answer (ListenerAt l) =
-    if is_done answer then record unseen { queueing = queueing.Closes host l } else unseen
+    if is_done answer && not (has_ended b l) then record unseen { queueing = queueing.Closes host l } else unseen
 observe_close host b aborts answer (EndpointAt i) = touching (at_place host b (events.Calls aborts) i)
 
 abbrev pub observe_other : Host → HostTcp → SocketTarget → Observation
@@ -234,7 +235,7 @@ abbrev pub observe_call : Host → HostTcp → Call → Answer → Observation
 observe_call host b (calls.Connect x lport rport) answer = observe_opened host b answer
 observe_call host b (calls.Accept n) answer = on_target b n (observe_accept host b answer)
 observe_call host b (calls.Send n bytes) answer = on_target b n (observe_other host b)
-observe_call host b (calls.Shut n) answer = on_target b n (observe_other host b)
+observe_call host b (calls.Shut n) answer = on_target b n (observe_close host b false answer)
 observe_call host b (calls.Close n) answer = on_target b n (observe_close host b false answer)
 observe_call host b (calls.Abort n) answer = on_target b n (observe_close host b (is_done answer) answer)
 observe_call host b call answer = unseen

@@ -85,6 +85,8 @@ pub enum SocketChange {
     Nothing,
     /// A call returns this new socket number.
     Gives { host: Host, socket: u32 },
+    /// What a socket number names is shut; the number stays live.
+    Shuts { host: Host, target: SocketTarget },
     /// What a socket number names is closed or aborted; the number isn't live any more.
     Closes { host: Host, target: SocketTarget },
 }

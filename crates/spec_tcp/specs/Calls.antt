@@ -11,9 +11,10 @@ use Rattle.case_forms.specs.declared.calls.Answer.TheVariants as answers
 use Rattle.case_forms.specs.declared.calls.Call.{Call}
 use Rattle.case_forms.specs.declared.calls.Call.TheVariants as calls
 use Rattle.case_forms.specs.declared.calls.State.TheVariants as states
+use Rattle.case_forms.specs.declared.version.Version.{Version}
 use Rattle.spec_tcp.specs.Endpoints.{Endpoint, SocketTarget, ListenerAt, EndpointAt, new_endpoint}
-use Rattle.spec_tcp.specs.HostTcp.{HostTcp, is_connected, with_endpoint, is_listening, queue_of, socket_target}
-use Rattle.spec_tcp.specs.HostTcp.{with_socket}
+use Rattle.spec_tcp.specs.HostTcp.{HostTcp, dead, has_ended, is_connected, with_endpoint, is_listening, queue_of}
+use Rattle.spec_tcp.specs.HostTcp.{socket_target, with_socket}
 use Rattle.spec_tcp.specs.Same.{same_state}
 use Rattle.window_rules.specs.declared.control.Profile.{Profile}
 use Rattle.spec_tcp.specs.Calls.Await.{is_not_connected, await_allows}
@@ -23,29 +24,30 @@ use Rattle.spec_tcp.specs.Calls.Close.{shut_allows, after_shut, after_close, aft
 use Rattle.spec_tcp.specs.Calls.Accept.{listener_allows, after_accept}
 
 -- a call on a live socket number of an endpoint
-abbrev pub endpoint_allows : Endpoint → Call → Answer → Bool
-endpoint_allows e (calls.Await n) answer = await_allows e answer
-endpoint_allows e (calls.Accept n) answer = is_not_connected answer
-endpoint_allows e (calls.Send n bytes) answer = send_allows e bytes answer
-endpoint_allows e (calls.Recv n most) answer = recv_allows e most answer
-endpoint_allows e (calls.Shut n) answer = shut_allows e answer
-endpoint_allows e (calls.Close n) answers.Done = true
-endpoint_allows e (calls.Abort n) answers.Done = true
-endpoint_allows e (calls.Status n) (answers.State s) = same_state s e.state
-endpoint_allows e _ _ = false
+abbrev pub endpoint_allows : Version → Endpoint → Call → Answer → Bool
+endpoint_allows v e (calls.Await n) answer = await_allows e answer
+endpoint_allows v e (calls.Accept n) answer = is_not_connected answer
+endpoint_allows v e (calls.Send n bytes) answer = send_allows v e bytes answer
+endpoint_allows v e (calls.Recv n most) answer = recv_allows v e most answer
+endpoint_allows v e (calls.Shut n) answer = shut_allows v e answer
+endpoint_allows v e (calls.Close n) answers.Done = true
+endpoint_allows v e (calls.Abort n) answers.Done = true
+endpoint_allows v e (calls.Status n) (answers.State s) = same_state s e.state
+endpoint_allows v e _ _ = false
 
-abbrev pub target_allows : HostTcp → Call → Answer → SocketTarget → Bool
-target_allows b call answer (ListenerAt l) = listener_allows (queue_of b l) call answer
-target_allows b call answer (EndpointAt i) =
-    option_map_or (λ e. endpoint_allows e call answer) (slice_get b.endpoints i) false
+abbrev pub target_allows : Version → HostTcp → Call → Answer → SocketTarget → Bool
+target_allows v b call answer (ListenerAt l) = listener_allows v (has_ended b l) (queue_of b l) call answer
+target_allows v b call answer (EndpointAt i) =
+    option_map_or (λ e. endpoint_allows v e call answer) (slice_get b.endpoints i) false
 
 -- the only answer to a call on a socket number that is not live
 abbrev pub is_bad_socket : Answer → Bool
 is_bad_socket answers.BadSocket = true
 is_bad_socket _ = false
 
-abbrev pub socket_allows : HostTcp → ℕ → Call → Answer → Bool
-socket_allows b n call answer = option_map_or (target_allows b call answer) (socket_target b n) (is_bad_socket answer)
+abbrev pub socket_allows : Version → HostTcp → ℕ → Call → Answer → Bool
+socket_allows v b n call answer =
+    option_map_or (target_allows v b call answer) (socket_target b n) (is_bad_socket answer)
 
 -- a socket number is returned, or the port or the pair of ports is in use
 abbrev pub gives_or_in_use : Bool → Answer → Bool
@@ -53,18 +55,18 @@ gives_or_in_use used (answers.Given n) = not used
 gives_or_in_use used answers.InUse = used
 gives_or_in_use used _ = false
 
--- the call may have this answer
-abbrev pub call_allows : HostTcp → Call → Answer → Bool
-call_allows b (calls.Listen host port backlog) answer = gives_or_in_use (is_listening b port) answer
-call_allows b (calls.Connect host lport rport) answer = gives_or_in_use (is_connected b lport rport) answer
-call_allows b (calls.Await n) answer = socket_allows b n (calls.Await n) answer
-call_allows b (calls.Accept n) answer = socket_allows b n (calls.Accept n) answer
-call_allows b (calls.Send n bytes) answer = socket_allows b n (calls.Send n bytes) answer
-call_allows b (calls.Recv n most) answer = socket_allows b n (calls.Recv n most) answer
-call_allows b (calls.Shut n) answer = socket_allows b n (calls.Shut n) answer
-call_allows b (calls.Close n) answer = socket_allows b n (calls.Close n) answer
-call_allows b (calls.Abort n) answer = socket_allows b n (calls.Abort n) answer
-call_allows b (calls.Status n) answer = socket_allows b n (calls.Status n) answer
+-- the call may have this answer in a text of this version
+abbrev pub call_allows : Version → HostTcp → Call → Answer → Bool
+call_allows v b (calls.Listen host port backlog) answer = gives_or_in_use (is_listening b port) answer
+call_allows v b (calls.Connect host lport rport) answer = gives_or_in_use (is_connected b lport rport) answer
+call_allows v b (calls.Await n) answer = socket_allows v b n (calls.Await n) answer
+call_allows v b (calls.Accept n) answer = socket_allows v b n (calls.Accept n) answer
+call_allows v b (calls.Send n bytes) answer = socket_allows v b n (calls.Send n bytes) answer
+call_allows v b (calls.Recv n most) answer = socket_allows v b n (calls.Recv n most) answer
+call_allows v b (calls.Shut n) answer = socket_allows v b n (calls.Shut n) answer
+call_allows v b (calls.Close n) answer = socket_allows v b n (calls.Close n) answer
+call_allows v b (calls.Abort n) answer = socket_allows v b n (calls.Abort n) answer
+call_allows v b (calls.Status n) answer = socket_allows v b n (calls.Status n) answer
 
 -- the endpoint of a live socket number changes
 abbrev pub change_target : HostTcp → (Endpoint → Endpoint) → SocketTarget → HostTcp
@@ -74,7 +76,8 @@ change_target b f (EndpointAt i) = with_endpoint b i f
 abbrev pub change : HostTcp → ℕ → (Endpoint → Endpoint) → HostTcp
 change b n f = option_map_or (change_target b f) (socket_target b n) b
 
--- the host afterwards; every other answer changes nothing
+-- the host afterwards; every other answer changes nothing. `shut` leaves the socket number live, `close` and `abort`
+-- don't.
 abbrev pub after_call : Profile → HostTcp → Call → Answer → HostTcp
 after_call profile b (calls.Listen host port backlog) (answers.Given n) =
     with_socket (record b {
@@ -89,7 +92,7 @@ after_call profile b (calls.Connect host lport rport) (answers.Given n) =
 after_call profile b (calls.Accept h) (answers.Given n) = option_map_or (after_accept b n) (socket_target b h) b
 after_call profile b (calls.Send h bytes) (answers.Given n) = change b h (after_send bytes n)
 after_call profile b (calls.Recv h most) (answers.Bytes bytes) = change b h (after_recv bytes)
-after_call profile b (calls.Shut h) answers.Done = change b h after_shut
-after_call profile b (calls.Close h) answers.Done = after_gone b h after_close
-after_call profile b (calls.Abort h) answers.Done = after_gone b h after_abort
+after_call profile b (calls.Shut h) answers.Done = after_gone b h after_shut b.sockets
+after_call profile b (calls.Close h) answers.Done = after_gone b h after_close (dead b.sockets h)
+after_call profile b (calls.Abort h) answers.Done = after_gone b h after_abort (dead b.sockets h)
 after_call profile b _ _ = b

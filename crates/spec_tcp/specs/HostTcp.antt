@@ -65,6 +65,10 @@ is_listening b port = is_some (listener_on b port)
 abbrev pub queue_of : HostTcp → ℕ → List ℕ
 queue_of b l = option_map_or (λ x. x.queue) (slice_get b.listeners l) []
 
+-- the listener is closed: only `shut` leaves its socket number live then
+abbrev pub has_ended : HostTcp → ℕ → Bool
+has_ended b l = option_map_or (λ x. not x.is_open) (slice_get b.listeners l) false
+
 -- the socket number was returned at this host
 abbrev pub given : HostTcp → ℕ → Bool
 given b n = is_some (lookup (nat_eq n) b.sockets)

@@ -52,7 +52,7 @@ rules_at b lport rport f = option_map_or f (endpoint_of b lport rport) ((rules.N
 
 -- the rules of an act, lowest-numbered first
 abbrev pub act_rules : Header → Host → ℕ → HostTcp → Act → List (Rule × Bool)
-act_rules h me moment b (Calls call answer) = (rules.CallAnswer, not (call_allows b call answer)) ∷ []
+act_rules h me moment b (Calls call answer) = (rules.CallAnswer, not (call_allows h.version b call answer)) ∷ []
 act_rules h me moment b (Makes m) = rules_at b m.lport m.rport (λ e. making_rules h.version e m)
 act_rules h me moment b (Takes how m) = taker_rules h me b how m moment (taker b m)
 act_rules h me moment b (Resets m) = reset_rules b m

@@ -7,6 +7,8 @@ use Rattle.std.specs.Map.{lookup}
 use Rattle.std.proofs.Math.Nat.{le_refl}
 use Rattle.std.proofs.lemmas.List.{append-nil}
 use Rattle.std.proofs.lemmas.Option.{none-some, same_Some}
+use Rattle.case_forms.specs.Versions.{says_sender}
+use Rattle.case_forms.specs.declared.version.Version.{Version}
 use Rattle.case_forms.specs.declared.calls.Host.{Host}
 use Rattle.case_forms.specs.declared.calls.Host.TheVariants.{Zero, One}
 use Rattle.case_forms.specs.declared.calls.Call.{Call}
@@ -31,14 +33,14 @@ use Rattle.spec_tcp.specs.declared.endpoint.Socket.{Socket}
 use Rattle.spec_tcp.specs.declared.endpoint.Fault.TheVariants.{Refused, Reset, Timeout}
 use Rattle.spec_tcp.specs.declared.endpoint.SocketTarget.TheVariants.{ListenerAt, EndpointAt}
 use Rattle.spec_tcp.specs.Endpoints.{new_endpoint}
-use Rattle.spec_tcp.specs.HostTcp.{HostTcp, given, if_live, socket_target, queue_of, dead}
+use Rattle.spec_tcp.specs.HostTcp.{HostTcp, given, has_ended, if_live, socket_target, queue_of, dead}
 use Rattle.case_forms.specs.States.{is_syn_sent}
 use Rattle.spec_tcp.specs.Calls.Await.{tells}
 use Rattle.spec_tcp.specs.Calls.Send.{send_allows, open_send_allows, after_send}
-use Rattle.spec_tcp.specs.Calls.Accept.{listener_allows, accepted_from, after_accept}
+use Rattle.spec_tcp.specs.Calls.Accept.{ended_allows, listener_allows, open_allows, accepted_from, after_accept}
 use Rattle.spec_tcp.specs.Calls.{is_bad_socket, endpoint_allows, target_allows, socket_allows, call_allows, change_target, after_call}
 use Rattle.spec_tcp.specs.Calls.Receive.{after_recv}
-use Rattle.spec_tcp.specs.Calls.Close.{shut_down, ended_state, after_shut, after_close, after_abort, orphaned, without_listener, target_gone}
+use Rattle.spec_tcp.specs.Calls.Close.{shut_down, ended_state, after_ending, after_shut, after_close, after_abort, orphaned, without_listener, target_gone}
 use Rattle.spec_tcp_laws.specs.Runs.{endpoint_place, owner, is_socket_of, call_accepted, call_ended}
 use Rattle.spec_tcp_laws.proofs.Rules.{map_or_cases, both_true, number_same, number_self, is_not}
 use Rattle.spec_tcp_laws.proofs.Later.{Hosts, name, all_cells, Later}
@@ -103,38 +105,51 @@ socket_other a host n i j e h = ap (λ (o : Option ℕ). option_map_or (λ k. k 
 pub socket_none : (a : Hosts) (host : Host) (n i : ℕ) → owner (pick a host).body n ≡ None → is_socket_of a n (name host i) ≡ false
 socket_none a host n i e = ap (λ (o : Option ℕ). option_map_or (λ k. k == i) o false) e
 
+-- neither an ended listener allows the answer, nor an open one
+refuses : (v : Version) (ended : Bool) (queue : List ℕ) (call : Call) (answer : Answer) → ended_allows call answer ≡ false
+    → open_allows v queue call answer ≡ false → listener_allows v ended queue call answer ≡ false
+refuses v ended queue call answer over open' = by (says_sender v && ended)
+  where
+    by : (b : Bool) → (if b then ended_allows call answer else open_allows v queue call answer) ≡ false
+    by true = over
+    by false = open'
+
 -- a socket number names an endpoint that allows the answer
-pub named : (b : HostTcp) (n : ℕ) (call : Call) (answer : Answer) → socket_allows b n call answer ≡ true
-    → is_bad_socket answer ≡ false → ((queue : List ℕ) → listener_allows queue call answer ≡ false)
-    → (i : ℕ) × (socket_target b n ≡ Some (EndpointAt i)) × (e : Endpoint) × (slice_get b.endpoints i ≡ Some e) × (endpoint_allows e call answer ≡ true)
-named b n call answer may good refused = go (socket_target b n) refl may
+pub named : (v : Version) (b : HostTcp) (n : ℕ) (call : Call) (answer : Answer) → socket_allows v b n call answer ≡ true
+    → is_bad_socket answer ≡ false → ended_allows call answer ≡ false → ((queue : List ℕ) → open_allows v queue call answer ≡ false)
+    → (i : ℕ) × (socket_target b n ≡ Some (EndpointAt i)) × (e : Endpoint) × (slice_get b.endpoints i ≡ Some e) × (endpoint_allows v e call answer ≡ true)
+named v b n call answer may good over refused = go (socket_target b n) refl may
   where
     there : (i : ℕ) (o : Option Endpoint) → slice_get b.endpoints i ≡ o
-        → option_map_or (λ e. endpoint_allows e call answer) o false ≡ true
-        → (e : Endpoint) × (slice_get b.endpoints i ≡ Some e) × (endpoint_allows e call answer ≡ true)
+        → option_map_or (λ e. endpoint_allows v e call answer) o false ≡ true
+        → (e : Endpoint) × (slice_get b.endpoints i ≡ Some e) × (endpoint_allows v e call answer ≡ true)
     there i None at may = absurd cc
     there i (Some e) at may = (e, at, may)
 
-    go : (o : Option SocketTarget) → socket_target b n ≡ o → option_map_or (target_allows b call answer) o (is_bad_socket answer) ≡ true
-        → (i : ℕ) × (socket_target b n ≡ Some (EndpointAt i)) × (e : Endpoint) × (slice_get b.endpoints i ≡ Some e) × (endpoint_allows e call answer ≡ true)
+    go : (o : Option SocketTarget) → socket_target b n ≡ o → option_map_or (target_allows v b call answer) o (is_bad_socket answer) ≡ true
+        → (i : ℕ) × (socket_target b n ≡ Some (EndpointAt i)) × (e : Endpoint) × (slice_get b.endpoints i ≡ Some e) × (endpoint_allows v e call answer ≡ true)
     go None is may = absurd cc
-    go (Some (ListenerAt l)) is may = absurd (let x = refused (queue_of b l) in cc)
+    go (Some (ListenerAt l)) is may = absurd (let x = refuses v (has_ended b l) (queue_of b l) call answer over (refused (queue_of b l)) in cc)
     go (Some (EndpointAt i)) is may = let x = there i (slice_get b.endpoints i) refl may in (i, is, x.0, x.1, x.2)
 
 -- 2. what a call changes
 
 -- bytes are accepted only where sending was not ended
-send_open : (e : Endpoint) (bytes : List ℕ) (n : ℕ) → send_allows e bytes (answers.Given n) ≡ true → e.stream.ended ≡ false
-send_open e bytes n may = go e.fault e.stream.ended may
+send_open : (v : Version) (e : Endpoint) (bytes : List ℕ) (n : ℕ) → send_allows v e bytes (answers.Given n) ≡ true → e.stream.ended ≡ false
+send_open v e bytes n may = go e.fault e.stream.ended may
   where
+    none : (b : Bool) → (false || (b && false)) ≡ true → ⊥
+    none true is = absurd cc
+    none false is = absurd cc
+
     go : (fault : Option Fault) (ended : Bool)
-        → (if is_some fault then option_map_or (λ x. tells x (answers.Given n)) fault false || (ended && false)
+        → (if is_some fault then option_map_or (λ x. tells x (answers.Given n)) fault false || ((says_sender v || ended) && false)
         else if ended then false else open_send_allows e.state bytes (answers.Given n)) ≡ true → ended ≡ false
     go fault false may = refl
     go None true may = absurd cc
-    go (Some Refused) true may = absurd cc
-    go (Some Reset) true may = absurd cc
-    go (Some Timeout) true may = absurd cc
+    go (Some Refused) true may = absurd (none (says_sender v || true) may)
+    go (Some Reset) true may = absurd (none (says_sender v || true) may)
+    go (Some Timeout) true may = absurd (none (says_sender v || true) may)
 
 accept_later : (s : Stream) (bytes : List ℕ) → s.ended ≡ false → Later s (record s { accepted = s.accepted ++ bytes })
 accept_later s bytes open' = record { peer = λ q p. p; cells = grown; next = le_refl _; told = ([], append-nil (received s.receive)) }
@@ -212,18 +227,24 @@ grows_ended comes e f g is irs waits = record {
 }
 
 grows_shut : (comes : ℕ → Cell → Type 0) (e : Endpoint) → Own e → Grows comes (record { told = []; accepted = []; ended = true }) e (after_shut e)
-grows_shut comes e g = grows_ended comes e (after_shut e) g refl refl (shut_waits e.state)
+grows_shut comes e g = go (is_syn_sent e.state) refl
+  where
+    go : (b : Bool) → is_syn_sent e.state ≡ b
+        → Grows comes (record { told = []; accepted = []; ended = true }) e
+        (if b then shut_down (record e { stream = record e.stream { ended = true } }) else after_ending e)
+    go true is = grows_ended comes e (shut_down (record e { stream = record e.stream { ended = true } })) g refl refl (λ x. is)
+    go false is = grows_ended comes e (after_ending e) g refl refl (shut_waits e.state)
 
 grows_close : (comes : ℕ → Cell → Type 0) (e : Endpoint) → Own e → Grows comes (record { told = []; accepted = []; ended = true }) e (after_close e)
 grows_close comes e g = go (is_syn_sent e.state) refl
   where
     go : (b : Bool) → is_syn_sent e.state ≡ b
         → Grows comes (record { told = []; accepted = []; ended = true }) e
-        (record (if b then shut_down (record e { stream = record e.stream { ended = true } }) else after_shut e) {
+        (record (if b then shut_down (record e { stream = record e.stream { ended = true } }) else after_ending e) {
           closed = true;
         })
     go true is = grows_ended comes e (record (shut_down (record e { stream = record e.stream { ended = true } })) { closed = true }) g refl refl (λ x. is)
-    go false is = grows_ended comes e (record (after_shut e) { closed = true }) g refl refl (shut_waits e.state)
+    go false is = grows_ended comes e (record (after_ending e) { closed = true }) g refl refl (shut_waits e.state)
 
 grows_recv : (comes : ℕ → Cell → Type 0) (e : Endpoint) (bytes rest : List ℕ) → Own e
     → bytes ++ rest ≡ waiting e.stream.receive
@@ -266,18 +287,18 @@ bare_endpoint p lport rport = record {
   bare = λ p c e. absurd (none-some _ e);
 }
 
-pub grown_call : (p : Profile) (comes : Coming) (a : Hosts) (host : Host) (call : Call) (answer : Answer) → OwnEnds (pick a host).body.endpoints
-    → call_allows (pick a host).body call answer ≡ true
+pub grown_call : (v : Version) (p : Profile) (comes : Coming) (a : Hosts) (host : Host) (call : Call) (answer : Answer) → OwnEnds (pick a host).body.endpoints
+    → call_allows v (pick a host).body call answer ≡ true
     → Grown comes host (λ j. call_adds a call answer (name host j)) (pick a host).body.endpoints (after_call p (pick a host).body call answer).endpoints
-grown_call p comes a host (calls.Listen at port backlog) (answers.Given n) g may = grown_not comes host silent (pick a host).body.endpoints (λ i. refl) g
-grown_call p comes a host (calls.Connect at lport rport) (answers.Given n) g may =
+grown_call v p comes a host (calls.Listen at port backlog) (answers.Given n) g may = grown_not comes host silent (pick a host).body.endpoints (λ i. refl) g
+grown_call v p comes a host (calls.Connect at lport rport) (answers.Given n) g may =
     grown_push comes host (pick a host).body.endpoints (new_endpoint lport rport None states.SynSent p) g (bare_endpoint p lport rport)
-grown_call p comes a host (calls.Accept h) (answers.Given n) g may = let b = (pick a host).body in
+grown_call v p comes a host (calls.Accept h) (answers.Given n) g may = let b = (pick a host).body in
     map_or_cases (λ (x : HostTcp). Grown comes host silent b.endpoints x.endpoints) (socket_target b h) b (after_accept b n)
     (λ e. grown_not comes host silent b.endpoints (λ i. refl) g) (λ target e. grown_accept comes host b n target g)
-grown_call p comes a host (calls.Send h bytes) (answers.Given n) g may =
+grown_call v p comes a host (calls.Send h bytes) (answers.Given n) g may =
     let b = (pick a host).body in
-    let x = named b h (calls.Send h bytes) (answers.Given n) may refl (λ queue. refused queue) in
+    let x = named v b h (calls.Send h bytes) (answers.Given n) may refl refl (λ queue. refused queue) in
     subst (λ (o : Option SocketTarget).
     Grown comes host (λ j. call_adds a (calls.Send h bytes) (answers.Given n) (name host j)) b.endpoints
     (option_map_or (change_target b (after_send bytes n)) o b).endpoints) (sym x.1)
@@ -285,14 +306,14 @@ grown_call p comes a host (calls.Send h bytes) (answers.Given n) g may =
     (λ c. record { told = []; accepted = if c then take n bytes else []; ended = false }) refl
     (owner_of b h (EndpointAt x.0) x.1).0 g
     (λ e at. grows_send (comes (name host x.0)) e bytes n (g x.0 e at)
-    (subst (λ (y : Endpoint). y.stream.ended ≡ false) (same_Some x.2 e (sym x.3 ∙ at)) (send_open x.2 bytes n x.4))))
+    (subst (λ (y : Endpoint). y.stream.ended ≡ false) (same_Some x.2 e (sym x.3 ∙ at)) (send_open v x.2 bytes n x.4))))
   where
-    refused : (queue : List ℕ) → listener_allows queue (calls.Send h bytes) (answers.Given n) ≡ false
+    refused : (queue : List ℕ) → open_allows v queue (calls.Send h bytes) (answers.Given n) ≡ false
     refused [] = refl
     refused (c ∷ queue) = refl
-grown_call p comes a host (calls.Recv h most) (answers.Bytes bytes) g may =
+grown_call v p comes a host (calls.Recv h most) (answers.Bytes bytes) g may =
     let b = (pick a host).body in
-    let x = named b h (calls.Recv h most) (answers.Bytes bytes) may refl (λ queue. refused queue) in
+    let x = named v b h (calls.Recv h most) (answers.Bytes bytes) may refl refl (λ queue. refused queue) in
     let rest =
     starts_prefix bytes (waiting x.2.stream.receive)
     (both_true (nat_le 1 (length bytes) && nat_le (length bytes) most)
@@ -306,25 +327,32 @@ grown_call p comes a host (calls.Recv h most) (answers.Bytes bytes) g may =
     (λ e at. grows_recv (comes (name host x.0)) e bytes rest.0 (g x.0 e at)
     (subst (λ (y : Endpoint). bytes ++ rest.0 ≡ waiting y.stream.receive) (same_Some x.2 e (sym x.3 ∙ at)) rest.1)))
   where
-    refused : (queue : List ℕ) → listener_allows queue (calls.Recv h most) (answers.Bytes bytes) ≡ false
+    refused : (queue : List ℕ) → open_allows v queue (calls.Recv h most) (answers.Bytes bytes) ≡ false
     refused [] = refl
     refused (c ∷ queue) = refl
-grown_call p comes a host (calls.Shut h) answers.Done g may =
-    let b = (pick a host).body in
-    let x = named b h (calls.Shut h) answers.Done may refl (λ queue. refused queue) in
-    subst (λ (o : Option SocketTarget).
-    Grown comes host (λ j. call_adds a (calls.Shut h) answers.Done (name host j)) b.endpoints
-    (option_map_or (change_target b after_shut) o b).endpoints) (sym x.1)
-    (grown_socket comes a host h x.0 after_shut (λ c. record { told = []; accepted = []; ended = c }) refl
-    (owner_of b h (EndpointAt x.0) x.1).0 g (λ e at. grows_shut (comes (name host x.0)) e (g x.0 e at)))
-  where
-    refused : (queue : List ℕ) → listener_allows queue (calls.Shut h) answers.Done ≡ false
-    refused [] = refl
-    refused (c ∷ queue) = refl
-grown_call p comes a host (calls.Close h) answers.Done g may = go (socket_target (pick a host).body h) refl may
+grown_call v p comes a host (calls.Shut h) answers.Done g may =
+    go (socket_target (pick a host).body h) refl may
   where
     go : (o : Option SocketTarget) → socket_target (pick a host).body h ≡ o
-        → option_map_or (target_allows (pick a host).body (calls.Close h) answers.Done) o false ≡ true
+        → option_map_or (target_allows v (pick a host).body (calls.Shut h) answers.Done) o false ≡ true
+        → Grown comes host (λ j. call_adds a (calls.Shut h) answers.Done (name host j)) (pick a host).body.endpoints
+        (option_map_or (λ target. record (target_gone (pick a host).body target after_shut) {
+          sockets = (pick a host).body.sockets;
+        }) o (pick a host).body).endpoints
+    go None is may = absurd cc
+    go (Some (ListenerAt l)) is may =
+        grown_quiet comes host (λ j. call_adds a (calls.Shut h) answers.Done (name host j))
+        (pick a host).body.endpoints (without_listener (pick a host).body l).endpoints
+        (λ i. ap (λ (c : Bool). record { told = []; accepted = []; ended = c })
+        (socket_none a host h i (owner_of (pick a host).body h (ListenerAt l) is).0))
+        (grown_listener comes host (pick a host).body l g)
+    go (Some (EndpointAt i)) is may =
+        grown_socket comes a host h i after_shut (λ c. record { told = []; accepted = []; ended = c }) refl
+        (owner_of (pick a host).body h (EndpointAt i) is).0 g (λ e at. grows_shut (comes (name host i)) e (g i e at))
+grown_call v p comes a host (calls.Close h) answers.Done g may = go (socket_target (pick a host).body h) refl may
+  where
+    go : (o : Option SocketTarget) → socket_target (pick a host).body h ≡ o
+        → option_map_or (target_allows v (pick a host).body (calls.Close h) answers.Done) o false ≡ true
         → Grown comes host (λ j. call_adds a (calls.Close h) answers.Done (name host j)) (pick a host).body.endpoints
         (option_map_or (λ target. record (target_gone (pick a host).body target after_close) {
           sockets = dead (pick a host).body.sockets h;
@@ -339,7 +367,7 @@ grown_call p comes a host (calls.Close h) answers.Done g may = go (socket_target
     go (Some (EndpointAt i)) is may =
         grown_socket comes a host h i after_close (λ c. record { told = []; accepted = []; ended = c }) refl
         (owner_of (pick a host).body h (EndpointAt i) is).0 g (λ e at. grows_close (comes (name host i)) e (g i e at))
-grown_call p comes a host (calls.Abort h) answers.Done g may = let b = (pick a host).body in
+grown_call v p comes a host (calls.Abort h) answers.Done g may = let b = (pick a host).body in
     map_or_cases (λ (x : HostTcp). Grown comes host silent b.endpoints x.endpoints) (socket_target b h) b
     (λ target. record (target_gone b target after_abort) { sockets = dead b.sockets h })
     (λ e. grown_not comes host silent b.endpoints (λ i. refl) g)
@@ -348,17 +376,21 @@ grown_call p comes a host (calls.Abort h) answers.Done g may = let b = (pick a h
     go : (target : SocketTarget) → Grown comes host silent (pick a host).body.endpoints (target_gone (pick a host).body target after_abort).endpoints
     go (ListenerAt l) = grown_listener comes host (pick a host).body l g
     go (EndpointAt i) = grown_plain comes host (pick a host).body.endpoints i after_abort g (λ e. record { stream = refl; irs = refl; waits = λ x. absurd cc })
-grown_call p comes a host call answer g may = grown_not comes host silent (pick a host).body.endpoints (λ i. refl) g
+grown_call v p comes a host call answer g may = grown_not comes host silent (pick a host).body.endpoints (λ i. refl) g
 
 -- 4. endpoints and their peers: no call changes what an endpoint has of its peer
 
 keeps_shut : (e : Endpoint) → KeepsPeer e (after_shut e)
-keeps_shut e = record { peer = refl; taken = refl; snd_una = refl; waits = shut_waits e.state }
+keeps_shut e = go (is_syn_sent e.state)
+  where
+    go : (b : Bool) → KeepsPeer e (if b then shut_down (record e { stream = record e.stream { ended = true } }) else after_ending e)
+    go true = record { peer = refl; taken = refl; snd_una = refl; waits = λ x. absurd cc }
+    go false = record { peer = refl; taken = refl; snd_una = refl; waits = shut_waits e.state }
 
 keeps_close : (e : Endpoint) → KeepsPeer e (after_close e)
 keeps_close e = go (is_syn_sent e.state)
   where
-    go : (b : Bool) → KeepsPeer e (record (if b then shut_down (record e { stream = record e.stream { ended = true } }) else after_shut e) { closed = true })
+    go : (b : Bool) → KeepsPeer e (record (if b then shut_down (record e { stream = record e.stream { ended = true } }) else after_ending e) { closed = true })
     go true = record { peer = refl; taken = refl; snd_una = refl; waits = λ x. absurd cc }
     go false = record { peer = refl; taken = refl; snd_una = refl; waits = shut_waits e.state }
 
@@ -376,11 +408,12 @@ moves_change a host b n f g keeps =
     go (ListenerAt l) = moves_not a host b.endpoints g
     go (EndpointAt i) = moves_keeps a host b.endpoints i f g keeps
 
-moves_gone : (a : Hosts) (host : Host) (b : HostTcp) (n : ℕ) (f : Endpoint → Endpoint) → GoodEnds a host b.endpoints → ((e : Endpoint) → KeepsPeer e (f e))
-    → Moves a host b.endpoints (option_map_or (λ target. record (target_gone b target f) { sockets = dead b.sockets n }) (socket_target b n) b).endpoints
-moves_gone a host b n f g keeps =
+moves_gone : (a : Hosts) (host : Host) (b : HostTcp) (n : ℕ) (f : Endpoint → Endpoint) (sockets : List (ℕ × Socket)) → GoodEnds a host b.endpoints
+    → ((e : Endpoint) → KeepsPeer e (f e))
+    → Moves a host b.endpoints (option_map_or (λ target. record (target_gone b target f) { sockets = sockets }) (socket_target b n) b).endpoints
+moves_gone a host b n f sockets g keeps =
     map_or_cases (λ (x : HostTcp). Moves a host b.endpoints x.endpoints) (socket_target b n) b
-    (λ target. record (target_gone b target f) { sockets = dead b.sockets n }) (λ e. moves_not a host b.endpoints g)
+    (λ target. record (target_gone b target f) { sockets = sockets }) (λ e. moves_not a host b.endpoints g)
     (λ target e. go target)
   where
     go : (target : SocketTarget) → Moves a host b.endpoints (target_gone b target f).endpoints
@@ -419,7 +452,7 @@ moves_call p a host b (calls.Send h bytes) (answers.Given n) g =
     moves_change a host b h (after_send bytes n) g (λ e. record { peer = refl; taken = refl; snd_una = refl; waits = λ x. x })
 moves_call p a host b (calls.Recv h most) (answers.Bytes bytes) g =
     moves_change a host b h (after_recv bytes) g (λ e. record { peer = refl; taken = refl; snd_una = refl; waits = λ x. x })
-moves_call p a host b (calls.Shut h) answers.Done g = moves_change a host b h after_shut g keeps_shut
-moves_call p a host b (calls.Close h) answers.Done g = moves_gone a host b h after_close g keeps_close
-moves_call p a host b (calls.Abort h) answers.Done g = moves_gone a host b h after_abort g keeps_abort
+moves_call p a host b (calls.Shut h) answers.Done g = moves_gone a host b h after_shut b.sockets g keeps_shut
+moves_call p a host b (calls.Close h) answers.Done g = moves_gone a host b h after_close (dead b.sockets h) g keeps_close
+moves_call p a host b (calls.Abort h) answers.Done g = moves_gone a host b h after_abort (dead b.sockets h) g keeps_abort
 moves_call p a host b call answer g = moves_not a host b.endpoints g

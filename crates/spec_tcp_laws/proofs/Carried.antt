@@ -21,7 +21,7 @@ use Rattle.spec_network.specs.HostSteps.{after, after_all, start, Lawful}
 use Rattle.spec_tcp.specs.declared.endpoint.EndpointId.{EndpointId}
 use Rattle.spec_tcp.specs.declared.endpoint.Endpoint.{Endpoint}
 use Rattle.spec_tcp.specs.Calls.{is_bad_socket, call_allows}
-use Rattle.spec_tcp.specs.Calls.Accept.{listener_allows}
+use Rattle.spec_tcp.specs.Calls.Accept.{open_allows}
 use Rattle.spec_tcp.specs.Machine.{tcp, tcp_shape, aim}
 use Rattle.spec_tcp_laws.specs.Runs.{world_at_end, owner, call_told, of_turn, of_effect, told_from, told_to}
 use Rattle.spec_tcp_laws.specs.Consequences.{find}
@@ -83,16 +83,16 @@ abbrev Owned : Hosts → ℕ → Type 0
 Owned a socket = (me : EndpointId) × (owner (pick a me.host).body socket ≡ Some me.number)
 
 owned_call : (h : Header) (s : ℕ) (a : Hosts) (socket : ℕ) (call : Call) (answer : Answer) (o : Option Host)
-    → option_map_or (λ host. call_allows (pick a host).body call answer) o (is_bad_socket answer) ≡ true
+    → option_map_or (λ host. call_allows h.version (pick a host).body call answer) o (is_bad_socket answer) ≡ true
     → (call_told call answer socket ≡ []) ⊎ Owned a socket
 owned_call h s a socket (calls.Recv n most) (answers.Bytes bytes) o may = by (n == socket) refl
   where
-    refused : (queue : List ℕ) → listener_allows queue (calls.Recv n most) (answers.Bytes bytes) ≡ false
+    refused : (queue : List ℕ) → open_allows h.version queue (calls.Recv n most) (answers.Bytes bytes) ≡ false
     refused [] = refl
     refused (c ∷ queue) = refl
 
     by : (c : Bool) → (n == socket) ≡ c → ((if c then bytes else []) ≡ []) ⊎ Owned a socket
-    by true is = let x = reads_at h s a n most (answers.Bytes bytes) o refl (λ queue. refused queue) may in
+    by true is = let x = reads_at h s a n most (answers.Bytes bytes) o refl refl (λ queue. refused queue) may in
         inr (name x.0 x.1, subst (λ k. owner (pick a x.0).body k ≡ Some x.1) (number_same n socket is) x.2)
     by false is = inl refl
 owned_call h s a socket call answer o may = inl refl

@@ -102,7 +102,7 @@ nothing-forget m (AtListener l) = refl
 nothing-forget m (AtEndpoint i e) = refl
 
 pub act_rules-forget : (h : Header) (me : Host) (moment : ℕ) (b : HostTcp) (act : Act) → act_rules h me moment (forget_body b) act ≡ act_rules h me moment b act
-act_rules-forget h me moment b (Calls call answer) = rw (call_allows-forget b call answer) refl
+act_rules-forget h me moment b (Calls call answer) = rw (call_allows-forget h.version b call answer) refl
 act_rules-forget h me moment b (Makes m) = rules_at-forget b m.lport m.rport (λ e. making_rules h.version e m) (λ e. making_rules-forget h.version e m)
 act_rules-forget h me moment b (Takes how m) = rw (taker-forget b m) (taker_rules-forget h me b how m moment (taker b m))
 act_rules-forget h me moment b (Resets m) = rw (taker-forget b m, nothing-forget m (taker b m)) refl

@@ -8,7 +8,7 @@ use Rattle.streams.proofs.Fades.{below-mark, fade-fade}
 use Rattle.spec_tcp.specs.declared.endpoint.Endpoint.{Endpoint}
 use Rattle.spec_tcp.specs.Calls.Send.{after_send}
 use Rattle.spec_tcp.specs.Calls.Receive.{after_recv}
-use Rattle.spec_tcp.specs.Calls.Close.{shut_down, after_shut, after_close, after_abort, orphaned}
+use Rattle.spec_tcp.specs.Calls.Close.{shut_down, after_ending, after_shut, after_close, after_abort, orphaned}
 use Rattle.case_forms.specs.States.{is_syn_sent}
 use Rattle.case_forms.specs.declared.steps.SegmentPlan.{SegmentPlan}
 use Rattle.spec_tcp.specs.Makes.Payload.{making_length}
@@ -29,7 +29,14 @@ pub forgets : (f : Endpoint → Endpoint) → ((e : Endpoint) → f (forget_endp
 forgets f same e = ap forget_endpoint (same e) ∙ forget-forget (f e)
 
 shut_same : (e : Endpoint) → after_shut (forget_endpoint e) ≡ forget_endpoint (after_shut e)
-shut_same e = refl
+shut_same e = by (is_syn_sent e.state)
+  where
+    by : (b : Bool)
+        → (if b then shut_down (record (forget_endpoint e) { stream = record (forget_endpoint e).stream { ended = true } })
+        else after_ending (forget_endpoint e))
+        ≡ forget_endpoint (if b then shut_down (record e { stream = record e.stream { ended = true } }) else after_ending e)
+    by true = refl
+    by false = refl
 
 close_same : (e : Endpoint) → after_close (forget_endpoint e) ≡ forget_endpoint (after_close e)
 close_same e = by (is_syn_sent e.state)
@@ -37,8 +44,8 @@ close_same e = by (is_syn_sent e.state)
     by : (b : Bool)
         → (let x : Endpoint = record (if b
         then shut_down (record (forget_endpoint e) { stream = record (forget_endpoint e).stream { ended = true } })
-        else after_shut (forget_endpoint e)) { closed = true } in x)
-        ≡ forget_endpoint (record (if b then shut_down (record e { stream = record e.stream { ended = true } }) else after_shut e) { closed = true })
+        else after_ending (forget_endpoint e)) { closed = true } in x)
+        ≡ forget_endpoint (record (if b then shut_down (record e { stream = record e.stream { ended = true } }) else after_ending e) { closed = true })
     by true = refl
     by false = refl
 

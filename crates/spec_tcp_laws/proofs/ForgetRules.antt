@@ -37,12 +37,13 @@ await-forget e answers.Done = rw (rcv_nxt-forget e) refl
 await-forget e answers.Again = rw (rcv_nxt-forget e) refl
 await-forget e _ = refl
 
-pub recv-forget : (e : Endpoint) (most : ℕ) (answer : Answer) → recv_allows (forget_endpoint e) most answer ≡ recv_allows e most answer
-recv-forget e most (answers.Bytes bytes) = rw (waiting-forget e) refl
-recv-forget e most answers.Eof = rw (ended-forget e, waiting-forget e) refl
-recv-forget e most answers.Again = rw (ended-forget e, waiting-forget e) refl
-recv-forget e most answers.NotConn = rw (rcv_nxt-forget e) refl
-recv-forget e most _ = refl
+pub recv-forget : (v : Version) (e : Endpoint) (most : ℕ) (answer : Answer)
+    → recv_allows v (forget_endpoint e) most answer ≡ recv_allows v e most answer
+recv-forget v e most (answers.Bytes bytes) = rw (waiting-forget e) refl
+recv-forget v e most answers.Eof = rw (ended-forget e, waiting-forget e) refl
+recv-forget v e most answers.Again = rw (ended-forget e, waiting-forget e) refl
+recv-forget v e most answers.NotConn = rw (rcv_nxt-forget e) refl
+recv-forget v e most _ = refl
 
 pub syn_sent_rules-forget : (e : Endpoint) (how : TakeChoice) (m : Emission) (moment : ℕ)
     → syn_sent_rules (forget_endpoint e) how m moment ≡ syn_sent_rules e how m moment

@@ -113,7 +113,7 @@ nothing_same p m (AtEndpoint i e) = refl
 pub act_passes : (p : Profile) (j : Judged) (h : Header) (me : Host) (moment : ℕ) (b : HostTcp) (act : Act) → MayJudgeAll p b
     → first_broken (act_rules h me moment b act) ≡ None
     → first_broken (act_rules (header_by j h) me moment (body_by p b) act) ≡ None
-act_passes p j h me moment b (Calls call answer) may passed = rw (call_allows_by p b call answer) passed
+act_passes p j h me moment b (Calls call answer) may passed = rw (call_allows_by h.version p b call answer) passed
 act_passes p j h me moment b (Makes m) may passed =
     rules_pass p b m.lport m.rport (λ e. making_rules h.version e m) (λ e. making_rules h.version e m) may
     (λ e. making_passes h.version p e m) passed

@@ -5,6 +5,7 @@ use Rattle.std.specs.Option.{option_map, option_map_or}
 use Rattle.std.proofs.lemmas.List.{length-map}
 use Rattle.std.proofs.lemmas.Option.{slice_get-map}
 use Rattle.case_forms.specs.States.{is_closed}
+use Rattle.case_forms.specs.declared.version.Version.{Version}
 use Rattle.case_forms.specs.declared.calls.Answer.{Answer}
 use Rattle.case_forms.specs.declared.calls.Answer.TheVariants as answers
 use Rattle.case_forms.specs.declared.calls.Call.{Call}
@@ -13,6 +14,7 @@ use Rattle.case_forms.specs.declared.calls.State.TheVariants as states
 use Rattle.streams.specs.Lists.{modify}
 use Rattle.window_rules.specs.declared.control.Profile.{Profile}
 use Rattle.spec_tcp.specs.declared.endpoint.Endpoint.{Endpoint}
+use Rattle.spec_tcp.specs.declared.endpoint.Socket.{Socket}
 use Rattle.spec_tcp.specs.declared.endpoint.SocketTarget.{SocketTarget}
 use Rattle.spec_tcp.specs.declared.endpoint.SocketTarget.TheVariants.{EndpointAt, ListenerAt}
 use Rattle.spec_tcp.specs.Calls.{after_call, call_allows, change, change_target, endpoint_allows, gives_or_in_use, is_bad_socket, socket_allows, target_allows}
@@ -85,59 +87,61 @@ await_same p e answers.Done = refl
 await_same p e answers.Again = refl
 await_same p e _ = refl
 
-recv_same : (p : Profile) (e : Endpoint) (most : ℕ) (answer : Answer) → recv_allows (endpoint_by p e) most answer ≡ recv_allows e most answer
-recv_same p e most (answers.Bytes bytes) = refl
-recv_same p e most answers.Eof = refl
-recv_same p e most answers.Again = refl
-recv_same p e most answers.NotConn = refl
-recv_same p e most _ = refl
+recv_same : (v : Version) (p : Profile) (e : Endpoint) (most : ℕ) (answer : Answer)
+    → recv_allows v (endpoint_by p e) most answer ≡ recv_allows v e most answer
+recv_same v p e most (answers.Bytes bytes) = refl
+recv_same v p e most answers.Eof = refl
+recv_same v p e most answers.Again = refl
+recv_same v p e most answers.NotConn = refl
+recv_same v p e most _ = refl
 
-shut_same : (p : Profile) (e : Endpoint) (answer : Answer) → shut_allows (endpoint_by p e) answer ≡ shut_allows e answer
-shut_same p e answers.Done = refl
-shut_same p e answers.NotConn = refl
-shut_same p e _ = refl
+shut_same : (v : Version) (p : Profile) (e : Endpoint) (answer : Answer) → shut_allows v (endpoint_by p e) answer ≡ shut_allows v e answer
+shut_same v p e answers.Done = refl
+shut_same v p e answers.NotConn = refl
+shut_same v p e _ = refl
 
-endpoint_allows_by : (p : Profile) (call : Call) (answer : Answer) (e : Endpoint)
-    → endpoint_allows (endpoint_by p e) call answer ≡ endpoint_allows e call answer
-endpoint_allows_by p (calls.Await n) answer e = await_same p e answer
-endpoint_allows_by p (calls.Recv n most) answer e = recv_same p e most answer
-endpoint_allows_by p (calls.Shut n) answer e = shut_same p e answer
-endpoint_allows_by p (calls.Status n) (answers.State s) e = refl
-endpoint_allows_by p (calls.Close n) answers.Done e = refl
-endpoint_allows_by p (calls.Abort n) answers.Done e = refl
-endpoint_allows_by p _ _ e = refl
+endpoint_allows_by : (v : Version) (p : Profile) (call : Call) (answer : Answer) (e : Endpoint)
+    → endpoint_allows v (endpoint_by p e) call answer ≡ endpoint_allows v e call answer
+endpoint_allows_by v p (calls.Await n) answer e = await_same p e answer
+endpoint_allows_by v p (calls.Recv n most) answer e = recv_same v p e most answer
+endpoint_allows_by v p (calls.Shut n) answer e = shut_same v p e answer
+endpoint_allows_by v p (calls.Status n) (answers.State s) e = refl
+endpoint_allows_by v p (calls.Close n) answers.Done e = refl
+endpoint_allows_by v p (calls.Abort n) answers.Done e = refl
+endpoint_allows_by v p _ _ e = refl
 
-pub target_allows_by : (p : Profile) (b : HostTcp) (call : Call) (answer : Answer) (target : SocketTarget)
-    → target_allows (body_by p b) call answer target ≡ target_allows b call answer target
-target_allows_by p b call answer (ListenerAt l) = refl
-target_allows_by p b call answer (EndpointAt i) =
+pub target_allows_by : (v : Version) (p : Profile) (b : HostTcp) (call : Call) (answer : Answer) (target : SocketTarget)
+    → target_allows v (body_by p b) call answer target ≡ target_allows v b call answer target
+target_allows_by v p b call answer (ListenerAt l) = refl
+target_allows_by v p b call answer (EndpointAt i) =
     rw (slice_get-map (endpoint_by p) b.endpoints i)
-    (each_by p (λ e. endpoint_allows e call answer) (slice_get b.endpoints i) false (endpoint_allows_by p call answer))
+    (each_by p (λ e. endpoint_allows v e call answer) (slice_get b.endpoints i) false (endpoint_allows_by v p call answer))
 
-socket_allows_by : (p : Profile) (b : HostTcp) (n : ℕ) (call : Call) (answer : Answer)
-    → socket_allows (body_by p b) n call answer ≡ socket_allows b n call answer
-socket_allows_by p b n call answer = by (socket_target b n)
+socket_allows_by : (v : Version) (p : Profile) (b : HostTcp) (n : ℕ) (call : Call) (answer : Answer)
+    → socket_allows v (body_by p b) n call answer ≡ socket_allows v b n call answer
+socket_allows_by v p b n call answer = by (socket_target b n)
   where
     by : (o : Option SocketTarget)
-        → option_map_or (target_allows (body_by p b) call answer) o (is_bad_socket answer)
-        ≡ option_map_or (target_allows b call answer) o (is_bad_socket answer)
+        → option_map_or (target_allows v (body_by p b) call answer) o (is_bad_socket answer)
+        ≡ option_map_or (target_allows v b call answer) o (is_bad_socket answer)
     by None = refl
-    by (Some target) = target_allows_by p b call answer target
+    by (Some target) = target_allows_by v p b call answer target
 
 connected_by : (p : Profile) (b : HostTcp) (lport rport : ℕ) → is_connected (body_by p b) lport rport ≡ is_connected b lport rport
 connected_by p b lport rport = rw (endpoint_of_by p b lport rport) (each_by p (λ e. not (is_closed e.state)) (endpoint_of b lport rport) false (λ e. refl))
 
-pub call_allows_by : (p : Profile) (b : HostTcp) (call : Call) (answer : Answer) → call_allows (body_by p b) call answer ≡ call_allows b call answer
-call_allows_by p b (calls.Listen host port backlog) answer = refl
-call_allows_by p b (calls.Connect host lport rport) answer = ap (λ (used : Bool). gives_or_in_use used answer) (connected_by p b lport rport)
-call_allows_by p b (calls.Await n) answer = socket_allows_by p b n (calls.Await n) answer
-call_allows_by p b (calls.Accept n) answer = socket_allows_by p b n (calls.Accept n) answer
-call_allows_by p b (calls.Send n bytes) answer = socket_allows_by p b n (calls.Send n bytes) answer
-call_allows_by p b (calls.Recv n most) answer = socket_allows_by p b n (calls.Recv n most) answer
-call_allows_by p b (calls.Shut n) answer = socket_allows_by p b n (calls.Shut n) answer
-call_allows_by p b (calls.Close n) answer = socket_allows_by p b n (calls.Close n) answer
-call_allows_by p b (calls.Abort n) answer = socket_allows_by p b n (calls.Abort n) answer
-call_allows_by p b (calls.Status n) answer = socket_allows_by p b n (calls.Status n) answer
+pub call_allows_by : (v : Version) (p : Profile) (b : HostTcp) (call : Call) (answer : Answer)
+    → call_allows v (body_by p b) call answer ≡ call_allows v b call answer
+call_allows_by v p b (calls.Listen host port backlog) answer = refl
+call_allows_by v p b (calls.Connect host lport rport) answer = ap (λ (used : Bool). gives_or_in_use used answer) (connected_by p b lport rport)
+call_allows_by v p b (calls.Await n) answer = socket_allows_by v p b n (calls.Await n) answer
+call_allows_by v p b (calls.Accept n) answer = socket_allows_by v p b n (calls.Accept n) answer
+call_allows_by v p b (calls.Send n bytes) answer = socket_allows_by v p b n (calls.Send n bytes) answer
+call_allows_by v p b (calls.Recv n most) answer = socket_allows_by v p b n (calls.Recv n most) answer
+call_allows_by v p b (calls.Shut n) answer = socket_allows_by v p b n (calls.Shut n) answer
+call_allows_by v p b (calls.Close n) answer = socket_allows_by v p b n (calls.Close n) answer
+call_allows_by v p b (calls.Abort n) answer = socket_allows_by v p b n (calls.Abort n) answer
+call_allows_by v p b (calls.Status n) answer = socket_allows_by v p b n (calls.Status n) answer
 
 -- effects
 change_kept : (p : Profile) (b : HostTcp) (n : ℕ) (f : Endpoint → Endpoint) → Keeps p f f → change (body_by p b) n f ≡ body_by p (change b n f)
@@ -148,16 +152,17 @@ change_kept p b n f same = by (socket_target b n)
     by (Some (ListenerAt l)) = refl
     by (Some (EndpointAt i)) = place_kept p b i f f same
 
-gone_kept : (p : Profile) (b : HostTcp) (n : ℕ) (f : Endpoint → Endpoint) → Keeps p f f → after_gone (body_by p b) n f ≡ body_by p (after_gone b n f)
-gone_kept p b n f same = by (socket_target b n)
+gone_kept : (p : Profile) (b : HostTcp) (n : ℕ) (f : Endpoint → Endpoint) (sockets : List (ℕ × Socket)) → Keeps p f f
+    → after_gone (body_by p b) n f sockets ≡ body_by p (after_gone b n f sockets)
+gone_kept p b n f sockets same = by (socket_target b n)
   where
-    by : (o : Option SocketTarget) → option_map_or (λ target. record (target_gone (body_by p b) target f) { sockets = dead b.sockets n }) o (body_by p b)
-        ≡ body_by p (option_map_or (λ target. record (target_gone b target f) { sockets = dead b.sockets n }) o b)
+    by : (o : Option SocketTarget) → option_map_or (λ target. record (target_gone (body_by p b) target f) { sockets = sockets }) o (body_by p b)
+        ≡ body_by p (option_map_or (λ target. record (target_gone b target f) { sockets = sockets }) o b)
     by None = refl
     by (Some (ListenerAt l)) =
-        ap (λ es. record (target_gone b (ListenerAt l) f) { endpoints = es; sockets = dead b.sockets n })
+        ap (λ es. record (target_gone b (ListenerAt l) f) { endpoints = es; sockets = sockets })
         (map_by p b.endpoints (orphaned l) (orphaned_kept p l))
-    by (Some (EndpointAt i)) = ap (λ es. record b { endpoints = es; sockets = dead b.sockets n }) (modify_by p b.endpoints i f f same)
+    by (Some (EndpointAt i)) = ap (λ es. record b { endpoints = es; sockets = sockets }) (modify_by p b.endpoints i f f same)
 
 accepted_kept : (p : Profile) (b : HostTcp) (l n : ℕ) (queue : List ℕ) → accepted_from (body_by p b) l n queue ≡ body_by p (accepted_from b l n queue)
 accepted_kept p b l n [] = refl
@@ -181,7 +186,7 @@ call_kept p q b (calls.Connect host lport rport) (answers.Given n) =
 call_kept p q b (calls.Accept h) (answers.Given n) = accept_kept p b n (socket_target b h)
 call_kept p q b (calls.Send h bytes) (answers.Given n) = change_kept p b h (after_send bytes n) (send_kept p bytes n)
 call_kept p q b (calls.Recv h most) (answers.Bytes bytes) = change_kept p b h (after_recv bytes) (recv_kept p bytes)
-call_kept p q b (calls.Shut h) answers.Done = change_kept p b h after_shut (shut_kept p)
-call_kept p q b (calls.Close h) answers.Done = gone_kept p b h after_close (close_kept p)
-call_kept p q b (calls.Abort h) answers.Done = gone_kept p b h after_abort (abort_kept p)
+call_kept p q b (calls.Shut h) answers.Done = gone_kept p b h after_shut b.sockets (shut_kept p)
+call_kept p q b (calls.Close h) answers.Done = gone_kept p b h after_close (dead b.sockets h) (close_kept p)
+call_kept p q b (calls.Abort h) answers.Done = gone_kept p b h after_abort (dead b.sockets h) (abort_kept p)
 call_kept p q b _ _ = refl

@@ -23,7 +23,7 @@ use Rattle.spec_tcp.specs.Arrives.OtherStates.{taken}
 use Rattle.spec_tcp.specs.Arrives.OtherStates.Ack.{acknowledged}
 use Rattle.spec_tcp.specs.Arrives.OtherStates.Reset.{reset_fault, was_reset}
 use Rattle.spec_tcp.specs.Arrives.SynSent.{on_syn}
-use Rattle.spec_tcp.specs.Calls.Close.{after_abort, after_close, after_shut, orphaned, shut_down}
+use Rattle.spec_tcp.specs.Calls.Close.{after_abort, after_close, after_ending, after_shut, orphaned, shut_down}
 use Rattle.spec_tcp.specs.Calls.Receive.{after_recv}
 use Rattle.spec_tcp.specs.Calls.Send.{after_send}
 use Rattle.spec_tcp.specs.Makes.{after_making, endpoint_made}
@@ -37,16 +37,22 @@ abbrev pub Keeps : Profile → (f g : Endpoint → Endpoint) → Type 0
 Keeps p f g = (e : Endpoint) → f (endpoint_by p e) ≡ endpoint_by p (g e)
 
 pub shut_kept : (p : Profile) → Keeps p after_shut after_shut
-shut_kept p e = refl
+shut_kept p e = by (is_syn_sent e.state)
+  where
+    by : (b : Bool)
+        → (if b then shut_down (record (endpoint_by p e) { stream = record (endpoint_by p e).stream { ended = true } }) else after_ending (endpoint_by p e))
+        ≡ endpoint_by p (if b then shut_down (record e { stream = record e.stream { ended = true } }) else after_ending e)
+    by true = refl
+    by false = refl
 
 pub close_kept : (p : Profile) → Keeps p after_close after_close
 close_kept p e = by (is_syn_sent e.state)
   where
     by : (b : Bool)
         → (let x : Endpoint =
-        record (if b then shut_down (record (endpoint_by p e) { stream = record (endpoint_by p e).stream { ended = true } }) else after_shut (endpoint_by p e))
+        record (if b then shut_down (record (endpoint_by p e) { stream = record (endpoint_by p e).stream { ended = true } }) else after_ending (endpoint_by p e))
         { closed = true } in x)
-        ≡ endpoint_by p (record (if b then shut_down (record e { stream = record e.stream { ended = true } }) else after_shut e) { closed = true })
+        ≡ endpoint_by p (record (if b then shut_down (record e { stream = record e.stream { ended = true } }) else after_ending e) { closed = true })
     by true = refl
     by false = refl
 

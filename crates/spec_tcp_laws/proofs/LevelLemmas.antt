@@ -102,7 +102,7 @@ rules_alike p b lport rport f g same = rw (endpoint_of_by p b lport rport) (by (
 
 act_alike : (p : Profile) (j : Judged) (h : Header) (me : Host) (moment : ℕ) (b : HostTcp) (act : Act)
     → Alike (act_rules (header_by j h) me moment (body_by p b) act) (act_rules h me moment b act)
-act_alike p j h me moment b (acts.Calls call answer) = rw (call_allows_by p b call answer) refl
+act_alike p j h me moment b (acts.Calls call answer) = rw (call_allows_by h.version p b call answer) refl
 act_alike p j h me moment b (acts.Makes m) = rules_alike p b m.lport m.rport (λ e. making_rules h.version e m) (λ e. making_rules h.version e m)
     (λ e. making_alike h.version p e m)
 act_alike p j h me moment b (acts.Takes how m) = rw (taker_is p b m) (taker_alike p j h me b how m moment (taker b m))
@@ -142,9 +142,9 @@ call_same : (p : Profile) (j : Judged) (h : Header) (moment : ℕ) (hosts : Both
     → call_rules (tcp (header_by j h)) moment (hosts_by p hosts) call answer o ≡ call_rules (tcp h) moment hosts call answer o
 call_same p j h moment hosts call answer None = rw (fresh_same p j h hosts (gives call answer)) refl
 call_same p j h moment hosts call answer (Some Zero) =
-    rw (fresh_same p j h hosts (gives call answer), call_allows_by p hosts.zero.body call answer) refl
+    rw (fresh_same p j h hosts (gives call answer), call_allows_by h.version p hosts.zero.body call answer) refl
 call_same p j h moment hosts call answer (Some One) =
-    rw (fresh_same p j h hosts (gives call answer), call_allows_by p hosts.one.body call answer) refl
+    rw (fresh_same p j h hosts (gives call answer), call_allows_by h.version p hosts.one.body call answer) refl
 
 open_same : (p : Profile) (j : Judged) (h : Header) (moment : ℕ) (hosts : Both (HostState tcp_shape)) (u : Turn tcp_shape) (answer : Answer)
     → open_rules (tcp (header_by j h)) moment (hosts_by p hosts) u answer ≡ open_rules (tcp h) moment hosts u answer

@@ -24,7 +24,7 @@ use Rattle.spec_tcp.specs.declared.endpoint.Stream.{Stream}
 use Rattle.spec_tcp.specs.declared.endpoint.Endpoint.{Endpoint}
 use Rattle.spec_tcp.specs.declared.endpoint.SocketTarget.TheVariants.{EndpointAt}
 use Rattle.spec_tcp.specs.Calls.Receive.{recv_allows}
-use Rattle.spec_tcp.specs.Calls.Accept.{listener_allows}
+use Rattle.spec_tcp.specs.Calls.Accept.{ended_allows, open_allows}
 use Rattle.spec_tcp.specs.Calls.{is_bad_socket, call_allows}
 use Rattle.spec_tcp.specs.Machine.{tcp, tcp_shape, aim}
 use Rattle.spec_tcp_laws.specs.Runs.{owner, is_socket_of, call_told, call_told_end, call_accepted, call_ended, of_turn}
@@ -291,12 +291,13 @@ matches_run h steps may me e at =
 
 -- the call was a `recv` at the host that gave the number of an endpoint
 pub reads_at : (h : Header) (s : ℕ) (a : Hosts) (n most : ℕ) (answer : Answer) (o : Option Host)
-    → is_bad_socket answer ≡ false → ((queue : List ℕ) → listener_allows queue (calls.Recv n most) answer ≡ false)
-    → option_map_or (λ host. call_allows (pick a host).body (calls.Recv n most) answer) o (is_bad_socket answer) ≡ true
-    → (x : Host) × (i : ℕ) × (owner (pick a x).body n ≡ Some i) × (e : Endpoint) × (find a (name x i) ≡ Some e) × (recv_allows e most answer ≡ true)
-reads_at h s a n most answer None good refused may = absurd cc
-reads_at h s a n most answer (Some x) good refused may =
-    let y = named (pick a x).body n (calls.Recv n most) answer may good refused in
+    → is_bad_socket answer ≡ false → ended_allows (calls.Recv n most) answer ≡ false
+    → ((queue : List ℕ) → open_allows h.version queue (calls.Recv n most) answer ≡ false)
+    → option_map_or (λ host. call_allows h.version (pick a host).body (calls.Recv n most) answer) o (is_bad_socket answer) ≡ true
+    → (x : Host) × (i : ℕ) × (owner (pick a x).body n ≡ Some i) × (e : Endpoint) × (find a (name x i) ≡ Some e) × (recv_allows h.version e most answer ≡ true)
+reads_at h s a n most answer None good over refused may = absurd cc
+reads_at h s a n most answer (Some x) good over refused may =
+    let y = named h.version (pick a x).body n (calls.Recv n most) answer may good over refused in
     (x, y.0, (owner_of (pick a x).body n (EndpointAt y.0) y.1).0, y.2, y.3, y.4)
 
 -- a number of two endpoints
@@ -310,13 +311,13 @@ told_call : (h : Header) (s : ℕ) (a z : Hosts) (socket : ℕ) (me : EndpointId
     → ((x : Host) (n i : ℕ) → owner (pick a x).body n ≡ Some i → owner (pick z x).body n ≡ Some i)
     → owner (pick z me.host).body socket ≡ Some me.number
     → (call : Call) (answer : Answer) (o : Option Host)
-    → option_map_or (λ host. call_allows (pick a host).body call answer) o (is_bad_socket answer) ≡ true
+    → option_map_or (λ host. call_allows h.version (pick a host).body call answer) o (is_bad_socket answer) ≡ true
     → call_told call answer socket ≡ name_told a call answer me
 told_call h s a z socket me g stays own (calls.Recv n most) (answers.Bytes bytes) o may =
-    let x = reads_at h s a n most (answers.Bytes bytes) o refl (λ queue. refused queue) may in
+    let x = reads_at h s a n most (answers.Bytes bytes) o refl refl (λ queue. refused queue) may in
     ap (λ (c : Bool). if c then bytes else []) (by x.0 x.1 x.2 (n == socket) refl)
   where
-    refused : (queue : List ℕ) → listener_allows queue (calls.Recv n most) (answers.Bytes bytes) ≡ false
+    refused : (queue : List ℕ) → open_allows h.version queue (calls.Recv n most) (answers.Bytes bytes) ≡ false
     refused [] = refl
     refused (c ∷ queue) = refl
 
@@ -386,13 +387,13 @@ ended_on h w (y ∷ ys) socket g may x =
 
 ended_call : (h : Header) (s : ℕ) (a : Hosts) (socket : ℕ) → AllOwn a
     → (call : Call) (answer : Answer) (o : Option Host)
-    → option_map_or (λ host. call_allows (pick a host).body call answer) o (is_bad_socket answer) ≡ true
+    → option_map_or (λ host. call_allows h.version (pick a host).body call answer) o (is_bad_socket answer) ≡ true
     → call_told_end call answer socket ≡ true → EndedAt a socket
 ended_call h s a socket g (calls.Recv n most) answers.Eof o may e =
-    let x = reads_at h s a n most answers.Eof o refl (λ queue. refused queue) may in
+    let x = reads_at h s a n most answers.Eof o refl refl (λ queue. refused queue) may in
     (name x.0 x.1, subst (λ k. owner (pick a x.0).body k ≡ Some x.1) (number_same n socket e) x.2, x.3, x.4, ended_told x.3 (g x.0 x.1 x.3 x.4) x.5)
   where
-    refused : (queue : List ℕ) → listener_allows queue (calls.Recv n most) answers.Eof ≡ false
+    refused : (queue : List ℕ) → open_allows h.version queue (calls.Recv n most) answers.Eof ≡ false
     refused [] = refl
     refused (c ∷ queue) = refl
 ended_call h s a socket g call answer o may e = absurd cc

@@ -32,7 +32,7 @@ use Rattle.spec_tcp.specs.HostTcp.{HostTcp, given, socket_target, queue_of, with
 use Rattle.case_forms.specs.States.{is_syn_sent, is_syn_received}
 use Rattle.spec_tcp.specs.Calls.Send.{after_send}
 use Rattle.spec_tcp.specs.Calls.Receive.{after_recv}
-use Rattle.spec_tcp.specs.Calls.Close.{shut_down, ended_state, after_shut, after_close, after_abort, orphaned, without_listener, target_gone, after_gone}
+use Rattle.spec_tcp.specs.Calls.Close.{shut_down, ended_state, after_ending, after_shut, after_close, after_abort, orphaned, without_listener, target_gone, after_gone}
 use Rattle.spec_tcp.specs.Calls.Accept.{accepted_from, after_accept}
 use Rattle.spec_tcp.specs.Calls.{change_target, change, after_call}
 use Rattle.case_forms.specs.declared.steps.SegmentPlan.{SegmentPlan}
@@ -173,14 +173,12 @@ shut_late states.LastAck h = h
 shut_late states.TimeWait h = h
 
 stays_shut : (e : Endpoint) → Stays e (after_shut e)
-stays_shut e = record { listener = refl; late = shut_late e.state }
+stays_shut e =
+    stays_either (is_syn_sent e.state) e (shut_down (record e { stream = record e.stream { ended = true } }))
+    (after_ending e) (record { listener = refl; late = λ h. refl }) (record { listener = refl; late = shut_late e.state })
 
 stays_close : (e : Endpoint) → Stays e (after_close e)
-stays_close e =
-    let x =
-    stays_either (is_syn_sent e.state) e (shut_down (record e { stream = record e.stream { ended = true } }))
-    (after_shut e) (record { listener = refl; late = λ h. refl }) (stays_shut e) in
-    record { listener = x.listener; late = x.late }
+stays_close e = let x = stays_shut e in record { listener = x.listener; late = x.late }
 
 stays_abort : (e : Endpoint) → Stays e (after_abort e)
 stays_abort e = record { listener = refl; late = λ h. refl }
@@ -242,7 +240,29 @@ keeps_dead b c n g stay queues = record {
   given = λ m e. inl (dead_given b n m e);
 }
 
-keeps_gone : (b : HostTcp) (n : ℕ) (f : Endpoint → Endpoint) → ((e : Endpoint) → Stays e (f e)) → Sound b → Keeps b (after_gone b n f) None
+-- without a listener, with the same socket numbers
+keeps_without : (b : HostTcp) (l : ℕ) → Sound b → Keeps b (without_listener b l) None
+keeps_without b l g = record {
+  sound = keeps_stay b (without_listener b l) g
+      (stay_map (orphaned l) b.endpoints
+      (λ e. stays_either (option_map_or (λ holder. holder == l) e.listener false) e (after_abort e) e
+      (stays_abort e) (stays_not e)))
+      (λ m. refl) (λ k. queue_modify (λ x. record x { is_open = false }) (λ x. refl) b.listeners l k);
+  stays = λ m i e. e;
+  given = λ m e. inl e;
+}
+
+keeps_ended : (b : HostTcp) (n : ℕ) (f : Endpoint → Endpoint) → ((e : Endpoint) → Stays e (f e)) → Sound b → Keeps b (after_gone b n f b.sockets) None
+keeps_ended b n f stay g =
+    map_or_cases (λ (c : HostTcp). Keeps b c None) (socket_target b n) b
+    (λ target. record (target_gone b target f) { sockets = b.sockets }) (λ e. keeps_not b g) (λ target e. go target)
+  where
+    go : (target : SocketTarget) → Keeps b (record (target_gone b target f) { sockets = b.sockets }) None
+    go (ListenerAt l) = keeps_without b l g
+    go (EndpointAt i) = keeps_endpoints b (modify b.endpoints i f) g (stay_modify f b.endpoints i (λ e at. stay e))
+
+keeps_gone : (b : HostTcp) (n : ℕ) (f : Endpoint → Endpoint) → ((e : Endpoint) → Stays e (f e)) → Sound b
+    → Keeps b (after_gone b n f (dead b.sockets n)) None
 keeps_gone b n f stay g =
     map_or_cases (λ (c : HostTcp). Keeps b c None) (socket_target b n) b
     (λ target. record (target_gone b target f) { sockets = dead b.sockets n }) (λ e. keeps_not b g) (λ target e. go target)
@@ -299,7 +319,7 @@ keeps_call p b (calls.Accept h) (answers.Given n) g new =
     (λ e. keeps_same b (Some n) g) (λ target e. keeps_accept b n target g (new n refl))
 keeps_call p b (calls.Send h bytes) (answers.Given n) g new = keeps_change b h (after_send bytes n) (λ e. record { listener = refl; late = λ x. x }) g
 keeps_call p b (calls.Recv h most) (answers.Bytes bytes) g new = keeps_change b h (after_recv bytes) (λ e. record { listener = refl; late = λ x. x }) g
-keeps_call p b (calls.Shut h) answers.Done g new = keeps_change b h after_shut stays_shut g
+keeps_call p b (calls.Shut h) answers.Done g new = keeps_ended b h after_shut stays_shut g
 keeps_call p b (calls.Close h) answers.Done g new = keeps_gone b h after_close stays_close g
 keeps_call p b (calls.Abort h) answers.Done g new = keeps_gone b h after_abort stays_abort g
 keeps_call p b call answer g new = keeps_same b (gives call answer) g

@@ -8,6 +8,7 @@ use Rattle.indexmap.specs.IndexMap.{insert_entry}
 use Rattle.case_forms.specs.Versions.{is_half}
 use Rattle.case_forms.specs.declared.trace.Header.{Header}
 use Rattle.case_forms.specs.declared.trace.Wire.{Wire}
+use Rattle.case_forms.specs.declared.version.Version.{Version}
 use Rattle.case_forms.specs.declared.calls.Host.{Host}
 use Rattle.case_forms.specs.declared.calls.Call.{Call}
 use Rattle.case_forms.specs.declared.calls.Call.TheVariants as calls
@@ -231,28 +232,29 @@ kept_host_step h whole s w host (Answers line) g may up = kept_answers h s w hos
 -- 2. calls
 
 -- an answer other than that of a dead number is to a live one
-live : (b : HostTcp) (n : ℕ) (call : Call) (answer : Answer) → socket_allows b n call answer ≡ true → is_bad_socket answer ≡ false → given b n ≡ true
-live b n call answer may good = go (socket_target b n) refl may
+live : (v : Version) (b : HostTcp) (n : ℕ) (call : Call) (answer : Answer) → socket_allows v b n call answer ≡ true → is_bad_socket answer ≡ false
+    → given b n ≡ true
+live v b n call answer may good = go (socket_target b n) refl may
   where
-    go : (o : Option SocketTarget) → socket_target b n ≡ o → option_map_or (target_allows b call answer) o (is_bad_socket answer) ≡ true → given b n ≡ true
+    go : (o : Option SocketTarget) → socket_target b n ≡ o → option_map_or (target_allows v b call answer) o (is_bad_socket answer) ≡ true → given b n ≡ true
     go None is may = absurd cc
     go (Some target) is may = (owner_of b n target is).1
 
 -- nothing is added at the other host
-adds_elsewhere : (a : Hosts) (host : Host) (call : Call) (answer : Answer) → Apart a
-    → call_allows (pick a host).body call answer ≡ true → (i : ℕ)
+adds_elsewhere : (v : Version) (a : Hosts) (host : Host) (call : Call) (answer : Answer) → Apart a
+    → call_allows v (pick a host).body call answer ≡ true → (i : ℕ)
     → call_adds a call answer (name (other host) i) ≡ nothing
-adds_elsewhere a host (calls.Send n bytes) (answers.Given count) apart may i =
+adds_elsewhere v a host (calls.Send n bytes) (answers.Given count) apart may i =
     ap (λ (c : Bool). record { told = []; accepted = if c then take count bytes else []; ended = false })
-    (socket_none a (other host) n i (owner_elsewhere a host n apart (live (pick a host).body n (calls.Send n bytes) (answers.Given count) may refl)))
-adds_elsewhere a host (calls.Recv n most) (answers.Bytes bytes) apart may i =
+    (socket_none a (other host) n i (owner_elsewhere a host n apart (live v (pick a host).body n (calls.Send n bytes) (answers.Given count) may refl)))
+adds_elsewhere v a host (calls.Recv n most) (answers.Bytes bytes) apart may i =
     ap (λ (c : Bool). record { told = if c then bytes else []; accepted = []; ended = false })
-    (socket_none a (other host) n i (owner_elsewhere a host n apart (live (pick a host).body n (calls.Recv n most) (answers.Bytes bytes) may refl)))
-adds_elsewhere a host (calls.Shut n) answers.Done apart may i = ap (λ (c : Bool). record { told = []; accepted = []; ended = c })
-    (socket_none a (other host) n i (owner_elsewhere a host n apart (live (pick a host).body n (calls.Shut n) answers.Done may refl)))
-adds_elsewhere a host (calls.Close n) answers.Done apart may i = ap (λ (c : Bool). record { told = []; accepted = []; ended = c })
-    (socket_none a (other host) n i (owner_elsewhere a host n apart (live (pick a host).body n (calls.Close n) answers.Done may refl)))
-adds_elsewhere a host call answer apart may i = refl
+    (socket_none a (other host) n i (owner_elsewhere a host n apart (live v (pick a host).body n (calls.Recv n most) (answers.Bytes bytes) may refl)))
+adds_elsewhere v a host (calls.Shut n) answers.Done apart may i = ap (λ (c : Bool). record { told = []; accepted = []; ended = c })
+    (socket_none a (other host) n i (owner_elsewhere a host n apart (live v (pick a host).body n (calls.Shut n) answers.Done may refl)))
+adds_elsewhere v a host (calls.Close n) answers.Done apart may i = ap (λ (c : Bool). record { told = []; accepted = []; ended = c })
+    (socket_none a (other host) n i (owner_elsewhere a host n apart (live v (pick a host).body n (calls.Close n) answers.Done may refl)))
+adds_elsewhere v a host call answer apart may i = refl
 
 kept_call : (p : Profile) (a : Hosts) (host : Host) (call : Call) (answer : Answer) → Good a
     → AllLater a (with_host a host (record (pick a host) { body = after_call p (pick a host).body call answer }))
@@ -282,13 +284,13 @@ step_adds h w step me = record {
 pub effect_allowed : (h : Header) (s : ℕ) (hosts : Hosts) (call : Call) (answer : Answer) (o : Option Host)
     → first_broken (call_rules (tcp h) s hosts call answer o) ≡ None
     → first_broken (fresh_rules (tcp h) hosts (gives call answer)) ≡ None
-    × option_map_or (λ host. call_allows (pick hosts host).body call answer) o (is_bad_socket answer) ≡ true
+    × option_map_or (λ host. call_allows h.version (pick hosts host).body call answer) o (is_bad_socket answer) ≡ true
 effect_allowed h s hosts call answer None may = let x = none_both (fresh_rules (tcp h) hosts (gives call answer)) _ may in
     (x.0, not_false (is_bad_socket answer) (none_all ((rules.CallAnswer, not (is_bad_socket answer)) ∷ []) x.1).0)
 effect_allowed h s hosts call answer (Some host) may = let x = none_both (fresh_rules (tcp h) hosts (gives call answer)) _ may in (
   x.0,
-  not_false (call_allows (pick hosts host).body call answer)
-      (none_all ((rules.CallAnswer, not (call_allows (pick hosts host).body call answer)) ∷ []) x.1).0,
+  not_false (call_allows h.version (pick hosts host).body call answer)
+      (none_all ((rules.CallAnswer, not (call_allows h.version (pick hosts host).body call answer)) ∷ []) x.1).0,
 )
 
 -- endpoints by themselves, in every case
@@ -337,14 +339,14 @@ grown_effect h s w t answer g apart may = go (turn_of t w.threads) may
     comes = Carries h w (Effect t answer)
 
     by : (call : Call) (o : Option Host)
-        → option_map_or (λ host. call_allows (pick w.hosts host).body call answer) o (is_bad_socket answer) ≡ true
+        → option_map_or (λ host. call_allows h.version (pick w.hosts host).body call answer) o (is_bad_socket answer) ≡ true
         → AllGrown comes (call_adds w.hosts call answer) w.hosts (call_after (tcp h) s w.hosts (Calls call answer) o)
     by call None may = all_grown_not comes w.hosts (call_adds w.hosts call answer) (λ me. stray_adds w.hosts call answer me may) g
     by call (Some host) may =
         all_grown_host comes w.hosts host
         (record (pick w.hosts host) { body = after_call (profile_of h) (pick w.hosts host).body call answer })
         (call_adds w.hosts call answer) g
-        (grown_call (profile_of h) comes w.hosts host call answer (g host) may) (adds_elsewhere w.hosts host call answer apart may)
+        (grown_call h.version (profile_of h) comes w.hosts host call answer (g host) may) (adds_elsewhere h.version w.hosts host call answer apart may)
 
     go : (u : Turn tcp_shape) → first_broken (effect_rules (tcp h) s w.hosts u answer) ≡ None
         → AllGrown comes (λ me. record {

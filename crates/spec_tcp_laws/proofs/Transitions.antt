@@ -37,6 +37,7 @@ use Rattle.spec_tcp.specs.Signals.{profile_of}
 use Rattle.spec_tcp.specs.declared.endpoint.EndpointId.{EndpointId}
 use Rattle.spec_tcp.specs.declared.endpoint.Endpoint.{Endpoint}
 use Rattle.spec_tcp.specs.declared.endpoint.Emission.{Emission}
+use Rattle.spec_tcp.specs.declared.endpoint.Socket.{Socket}
 use Rattle.spec_tcp.specs.declared.endpoint.SocketTarget.{SocketTarget}
 use Rattle.spec_tcp.specs.declared.endpoint.SocketTarget.TheVariants.{ListenerAt, EndpointAt}
 use Rattle.spec_tcp.specs.declared.endpoint.Windows.{Windows}
@@ -44,7 +45,7 @@ use Rattle.spec_tcp.specs.Endpoints.{snd_max, rcv_nxt, new_endpoint}
 use Rattle.spec_tcp.specs.HostTcp.{HostTcp, place_of, at_ports, with_endpoint, socket_target, queue_of, dead}
 use Rattle.spec_tcp.specs.Calls.Send.{after_send}
 use Rattle.spec_tcp.specs.Calls.Receive.{after_recv}
-use Rattle.spec_tcp.specs.Calls.Close.{shut_down, ended_state, after_shut, after_close, after_abort, orphaned, target_gone}
+use Rattle.spec_tcp.specs.Calls.Close.{shut_down, ended_state, after_ending, after_shut, after_close, after_abort, orphaned, target_gone}
 use Rattle.spec_tcp.specs.Calls.Accept.{accepted_from, after_accept}
 use Rattle.spec_tcp.specs.Calls.{change_target, after_call}
 use Rattle.spec_tcp.specs.Makes.Payload.{making_length}
@@ -422,9 +423,9 @@ gone_change w step host n f new = let b = (pick w.hosts host).body in
     go (EndpointAt i) is = gone_one w step host (pick w.hosts host).body.endpoints i f (λ e at. new i e is)
 
 -- a `shut` or a `close`
-shut_goes : (w : World tcp_shape) (step : Step tcp_shape) (me : EndpointId) (e : Endpoint)
-    → CallsOn closed_number w step me.host (EndpointAt me.number) → Goes w step me e (after_shut e)
-shut_goes w step me e c = record { leads = go (ended_leads e.state); rises = level e; waits = λ was is. refl }
+ending_goes : (w : World tcp_shape) (step : Step tcp_shape) (me : EndpointId) (e : Endpoint)
+    → CallsOn closed_number w step me.host (EndpointAt me.number) → Goes w step me e (after_ending e)
+ending_goes w step me e c = record { leads = go (ended_leads e.state); rises = level e; waits = λ was is. refl }
   where
     go : StaysOr close_leads e.state (ended_state e.state) → MayLead w step me e (ended_state e.state)
     go (inl same) = Stays same
@@ -434,18 +435,29 @@ syn_sent_closes : (s : State) → is_syn_sent s ≡ true → close_leads s state
 syn_sent_closes states.SynSent is = refl
 syn_sent_closes s is = absurd cc
 
+shut_goes : (w : World tcp_shape) (step : Step tcp_shape) (me : EndpointId) (e : Endpoint)
+    → CallsOn closed_number w step me.host (EndpointAt me.number) → Goes w step me e (after_shut e)
+shut_goes w step me e c = go (is_syn_sent e.state) refl
+  where
+    go : (b : Bool) → is_syn_sent e.state ≡ b
+        → Goes w step me e (if b then shut_down (record e { stream = record e.stream { ended = true } }) else after_ending e)
+    go true is =
+        closed w step me e (shut_down (record e { stream = record e.stream { ended = true } })) refl (level e)
+        (ByClose c (syn_sent_closes e.state is))
+    go false is = ending_goes w step me e c
+
 close_goes : (w : World tcp_shape) (step : Step tcp_shape) (me : EndpointId) (e : Endpoint)
     → CallsOn closed_number w step me.host (EndpointAt me.number) → Goes w step me e (after_close e)
 close_goes w step me e c = go (is_syn_sent e.state) refl
   where
     go : (b : Bool) → is_syn_sent e.state ≡ b
         → Goes w step me e (record (if b then shut_down (record e { stream = record e.stream { ended = true } })
-        else after_shut e) { closed = true })
+        else after_ending e) { closed = true })
     go true is =
         closed w step me e (record (shut_down (record e { stream = record e.stream { ended = true } })) {
           closed = true;
         }) refl (level e) (ByClose c (syn_sent_closes e.state is))
-    go false is = let g = shut_goes w step me e c in record { leads = g.leads; rises = g.rises; waits = g.waits }
+    go false is = let g = ending_goes w step me e c in record { leads = g.leads; rises = g.rises; waits = g.waits }
 
 -- the children of a listener that is left
 orphan_goes : (w : World tcp_shape) (step : Step tcp_shape) (me : EndpointId) (e : Endpoint) (l : ℕ)
@@ -458,16 +470,16 @@ orphan_goes w step me e l c = go (option_map_or (λ holder. holder == l) e.liste
         closed w step me e (after_abort e) refl (level e) (ByListener l (x.1 ∙ ap (λ k. Some k) (number_same x.0 l x.2)) c refl)
     go false is = calm w step me e
 
-gone_gone : (w : World tcp_shape) (step : Step tcp_shape) (host : Host) (n : ℕ) (f : Endpoint → Endpoint) → AtNumber w step host n f
-    → ((l : ℕ) → socket_target (pick w.hosts host).body n ≡ Some (ListenerAt l) → CallsOn left_number w step host (ListenerAt l))
+gone_gone : (w : World tcp_shape) (step : Step tcp_shape) (host : Host) (n : ℕ) (f : Endpoint → Endpoint) (sockets : List (ℕ × Socket))
+    → AtNumber w step host n f → ((l : ℕ) → socket_target (pick w.hosts host).body n ≡ Some (ListenerAt l) → CallsOn left_number w step host (ListenerAt l))
     → Gone w step host (pick w.hosts host).body.endpoints
     (option_map_or (λ target. record (target_gone (pick w.hosts host).body target f) {
-      sockets = dead (pick w.hosts host).body.sockets n;
+      sockets = sockets;
     }) (socket_target (pick w.hosts host).body n)
     (pick w.hosts host).body).endpoints
-gone_gone w step host n f new left = let b = (pick w.hosts host).body in
+gone_gone w step host n f sockets new left = let b = (pick w.hosts host).body in
     map_or_cases (λ (x : HostTcp). Gone w step host b.endpoints x.endpoints) (socket_target b n) b
-    (λ target. record (target_gone b target f) { sockets = dead b.sockets n })
+    (λ target. record (target_gone b target f) { sockets = sockets })
     (λ e. gone_not w step host b.endpoints) (λ target e. go target e)
   where
     go : (target : SocketTarget) → socket_target (pick w.hosts host).body n ≡ Some target
@@ -504,12 +516,16 @@ gone_call p w thread host (calls.Recv h most) (answers.Bytes bytes) turn =
     gone_change w (Effect thread (answers.Bytes bytes)) host h (after_recv bytes)
     (λ i e is. stays w (Effect thread (answers.Bytes bytes)) (name host i) e (after_recv bytes e) refl
     (level e) refl)
-gone_call p w thread host (calls.Shut h) answers.Done turn = gone_change w (Effect thread answers.Done) host h after_shut
+gone_call p w thread host (calls.Shut h) answers.Done turn =
+    gone_gone w (Effect thread answers.Done) host h after_shut (pick w.hosts host).body.sockets
     (λ i e is. shut_goes w (Effect thread answers.Done) (name host i) e (thread, answers.Done, calls.Shut h, h, refl, turn, refl, is))
-gone_call p w thread host (calls.Close h) answers.Done turn = gone_gone w (Effect thread answers.Done) host h after_close
+    (λ l is. (thread, answers.Done, calls.Shut h, h, refl, turn, refl, is))
+gone_call p w thread host (calls.Close h) answers.Done turn =
+    gone_gone w (Effect thread answers.Done) host h after_close (dead (pick w.hosts host).body.sockets h)
     (λ i e is. close_goes w (Effect thread answers.Done) (name host i) e (thread, answers.Done, calls.Close h, h, refl, turn, refl, is))
     (λ l is. (thread, answers.Done, calls.Close h, h, refl, turn, refl, is))
-gone_call p w thread host (calls.Abort h) answers.Done turn = gone_gone w (Effect thread answers.Done) host h after_abort
+gone_call p w thread host (calls.Abort h) answers.Done turn =
+    gone_gone w (Effect thread answers.Done) host h after_abort (dead (pick w.hosts host).body.sockets h)
     (λ i e is. closed w (Effect thread answers.Done) (name host i) e (after_abort e) refl (level e)
     (ByAbort (thread, answers.Done, calls.Abort h, h, refl, turn, refl, is) refl))
     (λ l is. (thread, answers.Done, calls.Abort h, h, refl, turn, refl, is))

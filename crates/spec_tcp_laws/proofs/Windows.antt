@@ -33,6 +33,7 @@ use Rattle.spec_network.specs.HostSteps.{host_step_after, call_after, effect_aft
 use Rattle.spec_tcp.specs.declared.endpoint.EndpointId.{EndpointId}
 use Rattle.spec_tcp.specs.declared.endpoint.Endpoint.{Endpoint}
 use Rattle.spec_tcp.specs.declared.endpoint.Emission.{Emission}
+use Rattle.spec_tcp.specs.declared.endpoint.Socket.{Socket}
 use Rattle.spec_tcp.specs.declared.endpoint.SocketTarget.{SocketTarget}
 use Rattle.spec_tcp.specs.declared.endpoint.SocketTarget.TheVariants.{ListenerAt, EndpointAt}
 use Rattle.spec_tcp.specs.Endpoints.{new_endpoint, snd_max}
@@ -41,7 +42,7 @@ use Rattle.spec_tcp.specs.HostTcp.{HostTcp, place_of, endpoint_at, endpoint_of, 
 use Rattle.case_forms.specs.States.{is_syn_sent}
 use Rattle.spec_tcp.specs.Calls.Send.{after_send}
 use Rattle.spec_tcp.specs.Calls.Receive.{after_recv}
-use Rattle.spec_tcp.specs.Calls.Close.{shut_down, after_shut, after_close, after_abort, orphaned, target_gone}
+use Rattle.spec_tcp.specs.Calls.Close.{shut_down, after_ending, after_shut, after_close, after_abort, orphaned, target_gone}
 use Rattle.spec_tcp.specs.Calls.Accept.{accepted_from, after_accept}
 use Rattle.spec_tcp.specs.Calls.{change_target, after_call}
 use Rattle.spec_tcp.specs.Makes.{endpoint_made, after_making}
@@ -253,12 +254,12 @@ follows_change p w step host b n f same =
     go (EndpointAt i) = follows_same p w step host b i f same
 
 follows_gone : (p : Profile) (w : World tcp_shape) (step : Step tcp_shape) (host : Host) (b : HostTcp) (n : ℕ) (f : Endpoint → Endpoint)
-    → ((e : Endpoint) → (f e).control ≡ e.control)
+    (sockets : List (ℕ × Socket)) → ((e : Endpoint) → (f e).control ≡ e.control)
     → Follows p w step host b.endpoints
-    (option_map_or (λ target. record (target_gone b target f) { sockets = dead b.sockets n }) (socket_target b n) b).endpoints
-follows_gone p w step host b n f same =
+    (option_map_or (λ target. record (target_gone b target f) { sockets = sockets }) (socket_target b n) b).endpoints
+follows_gone p w step host b n f sockets same =
     map_or_cases (λ (x : HostTcp). Follows p w step host b.endpoints x.endpoints) (socket_target b n) b
-    (λ target. record (target_gone b target f) { sockets = dead b.sockets n })
+    (λ target. record (target_gone b target f) { sockets = sockets })
     (λ e. follows_not p w step host b.endpoints) (λ target e. go target)
   where
     go : (target : SocketTarget) → Follows p w step host b.endpoints (target_gone b target f).endpoints
@@ -287,12 +288,15 @@ follows_call p w step host b (calls.Accept h) (answers.Given n) =
     (λ e. follows_not p w step host b.endpoints) (λ target e. follows_accept p w step host b n target)
 follows_call p w step host b (calls.Send h bytes) (answers.Given n) = follows_change p w step host b h (after_send bytes n) (λ e. refl)
 follows_call p w step host b (calls.Recv h most) (answers.Bytes bytes) = follows_change p w step host b h (after_recv bytes) (λ e. refl)
-follows_call p w step host b (calls.Shut h) answers.Done = follows_change p w step host b h after_shut (λ e. refl)
-follows_call p w step host b (calls.Close h) answers.Done =
-    follows_gone p w step host b h after_close
+follows_call p w step host b (calls.Shut h) answers.Done =
+    follows_gone p w step host b h after_shut b.sockets
     (λ e. either_windows (is_syn_sent e.state)
-    (shut_down (record e { stream = record e.stream { ended = true } })) (after_shut e) e refl refl)
-follows_call p w step host b (calls.Abort h) answers.Done = follows_gone p w step host b h after_abort (λ e. refl)
+    (shut_down (record e { stream = record e.stream { ended = true } })) (after_ending e) e refl refl)
+follows_call p w step host b (calls.Close h) answers.Done =
+    follows_gone p w step host b h after_close (dead b.sockets h)
+    (λ e. either_windows (is_syn_sent e.state)
+    (shut_down (record e { stream = record e.stream { ended = true } })) (after_ending e) e refl refl)
+follows_call p w step host b (calls.Abort h) answers.Done = follows_gone p w step host b h after_abort (dead b.sockets h) (λ e. refl)
 follows_call p w step host b call answer = follows_not p w step host b.endpoints
 
 -- 3. both hosts

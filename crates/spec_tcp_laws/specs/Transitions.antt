@@ -55,7 +55,7 @@ fin_leads state _ = false
 abbrev pub StaysOr : (State → State → Bool) → State → State → Type 0
 StaysOr leads s t = (t ≡ s) ⊎ (leads s t ≡ true)
 
--- the socket number that a call closes, that it aborts, and that it closes or aborts
+-- the socket number that a call closes, that it aborts, and that it closes or aborts: `shut` of a listener closes it, too
 abbrev pub closed_number : Call → Option ℕ
 closed_number (calls.Shut n) = Some n
 closed_number (calls.Close n) = Some n
@@ -66,6 +66,7 @@ aborted_number (calls.Abort n) = Some n
 aborted_number _ = None
 
 abbrev pub left_number : Call → Option ℕ
+left_number (calls.Shut n) = Some n
 left_number (calls.Close n) = Some n
 left_number (calls.Abort n) = Some n
 left_number _ = None

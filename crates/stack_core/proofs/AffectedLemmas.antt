@@ -23,6 +23,7 @@ use Rattle.window_rules.specs.declared.control.Profile.{Profile}
 use Rattle.spec_tcp.specs.Signals.{profile_of}
 use Rattle.spec_tcp.specs.declared.endpoint.Emission.{Emission}
 use Rattle.spec_tcp.specs.declared.endpoint.Endpoint.{Endpoint}
+use Rattle.spec_tcp.specs.declared.endpoint.Socket.{Socket}
 use Rattle.spec_tcp.specs.declared.endpoint.SocketTarget.{SocketTarget}
 use Rattle.spec_tcp.specs.declared.endpoint.SocketTarget.TheVariants.{ListenerAt, EndpointAt}
 use Rattle.spec_tcp.specs.Arrives.{Nobody, AtListener, AtEndpoint, after_taking, endpoint_taker, listener_taker, taker}
@@ -162,13 +163,13 @@ change_leaves b n f = by (socket_target b n)
     by (Some (ListenerAt l)) = leaves_same kinds.Nobody b.endpoints
     by (Some (EndpointAt i)) = leaves_modify b.endpoints i f
 
-gone_leaves : (b : HostTcp) (n : ℕ) (f : Endpoint → Endpoint)
-    → Leaves (option_map_or affected_by_end (socket_target b n) kinds.Nobody) b.endpoints (after_gone b n f).endpoints
-gone_leaves b n f = by (socket_target b n)
+gone_leaves : (b : HostTcp) (n : ℕ) (f : Endpoint → Endpoint) (sockets : List (ℕ × Socket))
+    → Leaves (option_map_or affected_by_end (socket_target b n) kinds.Nobody) b.endpoints (after_gone b n f sockets).endpoints
+gone_leaves b n f sockets = by (socket_target b n)
   where
     by : (o : Option SocketTarget)
         → Leaves (option_map_or affected_by_end o kinds.Nobody) b.endpoints
-        (option_map_or (λ target. record (target_gone b target f) { sockets = dead b.sockets n }) o b).endpoints
+        (option_map_or (λ target. record (target_gone b target f) { sockets = sockets }) o b).endpoints
     by None = leaves_same kinds.Nobody b.endpoints
     by (Some (ListenerAt l)) = leaves_map b.endpoints (orphaned l)
     by (Some (EndpointAt i)) = leaves_modify b.endpoints i f
@@ -193,9 +194,9 @@ call_leaves p b (calls.Connect host lport rport) (answers.Given n) = leaves_push
 call_leaves p b (calls.Accept h) (answers.Given n) = accept_leaves b h n
 call_leaves p b (calls.Send h bytes) (answers.Given n) = change_leaves b h (after_send bytes n)
 call_leaves p b (calls.Recv h most) (answers.Bytes bytes) = change_leaves b h (after_recv bytes)
-call_leaves p b (calls.Shut h) answers.Done = change_leaves b h after_shut
-call_leaves p b (calls.Close h) answers.Done = gone_leaves b h after_close
-call_leaves p b (calls.Abort h) answers.Done = gone_leaves b h after_abort
+call_leaves p b (calls.Shut h) answers.Done = gone_leaves b h after_shut b.sockets
+call_leaves p b (calls.Close h) answers.Done = gone_leaves b h after_close (dead b.sockets h)
+call_leaves p b (calls.Abort h) answers.Done = gone_leaves b h after_abort (dead b.sockets h)
 call_leaves p b call answer = leaves_same _ b.endpoints
 
 -- 4. a step

@@ -8,6 +8,7 @@ use Rattle.std.specs.Option.{IfSome, IsSomeAnd, option_map_or}
 use Rattle.std.specs.Prelude.{Err, IfOk, Ok, Result}
 use Rattle.std.proofs.lemmas.Bool.Decides.{nat_tests}
 use Rattle.std.proofs.lemmas.Option.{none-some, same_Some}
+use Rattle.case_forms.specs.declared.version.Version.{Version}
 use Rattle.case_forms.specs.declared.calls.Host.{Host}
 use Rattle.case_forms.specs.declared.calls.Host.TheVariants.{Zero, One}
 use Rattle.case_forms.specs.declared.calls.Answer.{Answer}
@@ -195,10 +196,11 @@ module _ (h : Header) (me : Host) (moment : ℕ) (v : World tcp_shape) (own : Is
       by Zero = first (given v.hosts.zero.body n) (given v.hosts.one.body n) is
       by One = second (given v.hosts.zero.body n) (given v.hosts.one.body n) is
 
-  at_socket : (n : ℕ) (c : Call) → aim_of (tcp h) v.hosts (ThatSocket n) ≡ None → socket_allows b n c answer ≡ true → is_bad_socket answer ≡ true
-  at_socket n c is may = subst (λ (o : Option SocketTarget). option_map_or (target_allows b c answer) o (is_bad_socket answer) ≡ true) (nobody n is) may
+  at_socket : (n : ℕ) (c : Call) → aim_of (tcp h) v.hosts (ThatSocket n) ≡ None → socket_allows h.version b n c answer ≡ true → is_bad_socket answer ≡ true
+  at_socket n c is may =
+      subst (λ (o : Option SocketTarget). option_map_or (target_allows h.version b c answer) o (is_bad_socket answer) ≡ true) (nobody n is) may
 
-  stray : (c : Call) → aim_of (tcp h) v.hosts (aim c) ≡ None → call_allows b c answer ≡ true → is_bad_socket answer ≡ true
+  stray : (c : Call) → aim_of (tcp h) v.hosts (aim c) ≡ None → call_allows h.version b c answer ≡ true → is_bad_socket answer ≡ true
   stray (calls.Listen host port backlog) is may = absurd (none-some host (sym is))
   stray (calls.Connect host lport rport) is may = absurd (none-some host (sym is))
   stray (calls.Await n) is may = at_socket n (calls.Await n) is may
@@ -210,7 +212,7 @@ module _ (h : Header) (me : Host) (moment : ℕ) (v : World tcp_shape) (own : Is
   stray (calls.Abort n) is may = at_socket n (calls.Abort n) is may
   stray (calls.Status n) is may = at_socket n (calls.Status n) is may
 
-  effect_may : (t : ℕ) → turn_of t v.threads ≡ Called call → call_allows b call answer ≡ true
+  effect_may : (t : ℕ) → turn_of t v.threads ≡ Called call → call_allows h.version b call answer ≡ true
       → ((n : ℕ) → gives call answer ≡ Some n → n ≡ next_socket me b) → Permitted (tcp h) moment v (Effect t answer)
   effect_may t is may next =
       subst (λ (u : Turn tcp_shape). first_broken (effect_rules (tcp h) moment v.hosts u answer) ≡ None) (sym is)
@@ -236,8 +238,8 @@ module _ (h : Header) (me : Host) (moment : ℕ) (v : World tcp_shape) (own : Is
       by (Some host) at (inl none) = absurd cc
       by (Some host) at (inr same) =
           fresh_passes (gives call answer) (at_zero me here there) (at_one me here there)
-          (call_allows (pick v.hosts host).body call answer)
-          (subst (λ (x : Host). call_allows (pick v.hosts x).body call answer ≡ true) (sym (same_Some host me same)) may)
+          (call_allows h.version (pick v.hosts host).body call answer)
+          (subst (λ (x : Host). call_allows h.version (pick v.hosts x).body call answer ≡ true) (sym (same_Some host me same)) may)
 
 -- 4. in what is kept, and in the whole world
 
@@ -251,13 +253,13 @@ kept_body One w = refl
 
 pub may_have : ForgettingIsFree → (h : Header) (me : Host) (w : World tcp_shape) → IsOwn me w
     → (t : ℕ) (call : Call) (answer : Answer) → turn_of t w.threads ≡ Called call
-    → call_allows (forget_body (pick w.hosts me).body) call answer ≡ true
+    → call_allows h.version (forget_body (pick w.hosts me).body) call answer ≡ true
     → ((n : ℕ) → gives call answer ≡ Some n → n ≡ next_socket me (forget_body (pick w.hosts me).body)) → (moment : ℕ)
     → Permitted (tcp h) moment w (Effect t answer)
 may_have free h me w own t call answer is may next moment =
     subst (λ (rs : List (Rule × Bool)). first_broken rs ≡ None) (free.rules h moment w (Effect t answer))
     (effect_may h me moment (forget w) (own_kept me w own) call answer t is
-    (subst (λ (b : HostTcp). call_allows b call answer ≡ true) (sym (kept_body me w)) may)
+    (subst (λ (b : HostTcp). call_allows h.version b call answer ≡ true) (sym (kept_body me w)) may)
     (subst (λ (b : HostTcp). (n : ℕ) → gives call answer ≡ Some n → n ≡ next_socket me b) (sym (kept_body me w)) next))
 
 -- 5. of a turn
@@ -275,17 +277,17 @@ gives_next me b u call answer is next = subst (λ (u : Turn tcp_shape). GivesNex
 -- 6. the answer that is chosen
 
 pub answers_permitted : {E : Type 0} → ForgettingIsFree → (r : Recorded) → IsOwn r.me (world_left r)
-    → (t : ℕ) (call : Call) (me : Host) (b : HostTcp) (next : ℕ)
-    → pending_call (turn_of t (world_left r).threads) ≡ Some call → me ≡ r.me
+    → (t : ℕ) (call : Call) (me : Host) (v : Version) (b : HostTcp) (next : ℕ)
+    → pending_call (turn_of t (world_left r).threads) ≡ Some call → me ≡ r.me → v ≡ r.header.version
     → b ≡ forget_body (pick (world_left r).hosts r.me).body → next ≡ next_socket me b → (res : Result (Option Answer) E)
-    → IfOk res (λ o. IfSome o (λ a. call_allows b call a ≡ true))
+    → IfOk res (λ o. IfSome o (λ a. call_allows v b call a ≡ true))
     → IfOk res (λ o. IfSome o (λ a. (n : ℕ) → gives call a ≡ Some n → n ≡ next))
     → IfOk res (λ o. IfSome o (λ a. (moment : ℕ) → Permitted (tcp r.header) moment (world_left r) (Effect t a)))
-answers_permitted free r own t call me b next pending is body number (Err error) may next_given = tt
-answers_permitted free r own t call me b next pending is body number (Ok None) may next_given = tt
-answers_permitted free r own t call me b next pending is body number (Ok (Some a)) may next_given =
+answers_permitted free r own t call me v b next pending is version body number (Err error) may next_given = tt
+answers_permitted free r own t call me v b next pending is version body number (Ok None) may next_given = tt
+answers_permitted free r own t call me v b next pending is version body number (Ok (Some a)) may next_given =
     may_have free r.header r.me (world_left r) own t call a (turn_pending (turn_of t (world_left r).threads) call pending)
-    (subst (λ (x : HostTcp). call_allows x call a ≡ true) body may)
+    (subst (λ (x : HostTcp). call_allows r.header.version x call a ≡ true) body (subst (λ (x : Version). call_allows x b call a ≡ true) version may))
     (λ n e. next_given n e ∙ number ∙ ap (λ (x : Host). next_socket x b) is ∙ ap (λ (x : HostTcp). next_socket r.me x) body)
 
 -- 7. the steps of an event that ends a call

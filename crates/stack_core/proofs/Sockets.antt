@@ -71,7 +71,12 @@ change_sockets b n f = map_or_cases (λ (c : HostTcp). c.sockets ≡ b.sockets) 
     by (ListenerAt l) = refl
     by (EndpointAt i) = refl
 
-gone_sockets : (b : HostTcp) (n : ℕ) (f : Endpoint → Endpoint) → SocketsAfter b.sockets (after_gone b n f).sockets None
+shut_sockets : (b : HostTcp) (n : ℕ) → (after_gone b n after_shut b.sockets).sockets ≡ b.sockets
+shut_sockets b n =
+    map_or_cases (λ (c : HostTcp). c.sockets ≡ b.sockets) (socket_target b n) b
+    (λ target. record (target_gone b target after_shut) { sockets = b.sockets }) (λ e. refl) (λ target e. refl)
+
+gone_sockets : (b : HostTcp) (n : ℕ) (f : Endpoint → Endpoint) → SocketsAfter b.sockets (after_gone b n f (dead b.sockets n)).sockets None
 gone_sockets b n f =
     map_or_cases (λ (c : HostTcp). SocketsAfter b.sockets c.sockets None) (socket_target b n) b
     (λ target. record (target_gone b target f) { sockets = dead b.sockets n }) (λ e. inl refl)
@@ -95,7 +100,7 @@ call_sockets p b (calls.Accept h) (answers.Given n) =
     (λ e. inl refl) (λ target e. accept_sockets b n target)
 call_sockets p b (calls.Send h bytes) (answers.Given n) = inl (change_sockets b h (after_send bytes n))
 call_sockets p b (calls.Recv h most) (answers.Bytes bytes) = inl (change_sockets b h (after_recv bytes))
-call_sockets p b (calls.Shut h) answers.Done = inl (change_sockets b h after_shut)
+call_sockets p b (calls.Shut h) answers.Done = inl (shut_sockets b h)
 call_sockets p b (calls.Close h) answers.Done = gone_sockets b h after_close
 call_sockets p b (calls.Abort h) answers.Done = gone_sockets b h after_abort
 call_sockets p b call answer = inl refl

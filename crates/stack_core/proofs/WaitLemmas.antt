@@ -3,6 +3,7 @@ use Rattle.std.proofs.Common.{◌≡◌, ◌≤◌, ℕ, Option, None, Some, ap,
 use Rattle.std.specs.Prelude.{◌-◌, max}
 use Rattle.std.specs.Option.{option_map, option_map_or}
 use Rattle.std.proofs.lemmas.Option.{none-some, slice_get-map}
+use Rattle.case_forms.specs.declared.version.Version.{Version}
 use Rattle.case_forms.specs.declared.calls.Call.{Call}
 use Rattle.case_forms.specs.declared.calls.Call.TheVariants as calls
 use Rattle.case_forms.specs.declared.calls.Answer.TheVariants as answers
@@ -33,20 +34,20 @@ send_waits : (ring : ℕ) (e : Endpoint) → SendWaits ring (forget_endpoint e) 
 send_waits ring e (inl early) = inl early
 send_waits ring e (inr full) = inr (subst (λ (n : ℕ). ring ≤ n - max e.stream.snd_una 1) (end_of-forget e) full)
 
-waits_whole : (ring : ℕ) (b : HostTcp) (call : Call) → Waits ring (forget_body b) call → Waits ring b call
-waits_whole ring b (calls.Send n bytes) waits = (
-  sym (call_allows-forget b (calls.Send n bytes) answers.Again) ∙ waits.0,
+waits_whole : (v : Version) (ring : ℕ) (b : HostTcp) (call : Call) → Waits v ring (forget_body b) call → Waits v ring b call
+waits_whole v ring b (calls.Send n bytes) waits = (
+  sym (call_allows-forget v b (calls.Send n bytes) answers.Again) ∙ waits.0,
   λ e is. send_waits ring e (waits.1 (forget_endpoint e) (named_forget b n e is)),
 )
-waits_whole ring b (calls.Listen host port backlog) waits = (sym (call_allows-forget b (calls.Listen host port backlog) answers.Again) ∙ waits.0, tt)
-waits_whole ring b (calls.Connect host lport rport) waits = (sym (call_allows-forget b (calls.Connect host lport rport) answers.Again) ∙ waits.0, tt)
-waits_whole ring b (calls.Await n) waits = (sym (call_allows-forget b (calls.Await n) answers.Again) ∙ waits.0, tt)
-waits_whole ring b (calls.Accept n) waits = (sym (call_allows-forget b (calls.Accept n) answers.Again) ∙ waits.0, tt)
-waits_whole ring b (calls.Recv n most) waits = (sym (call_allows-forget b (calls.Recv n most) answers.Again) ∙ waits.0, tt)
-waits_whole ring b (calls.Shut n) waits = (sym (call_allows-forget b (calls.Shut n) answers.Again) ∙ waits.0, tt)
-waits_whole ring b (calls.Close n) waits = (sym (call_allows-forget b (calls.Close n) answers.Again) ∙ waits.0, tt)
-waits_whole ring b (calls.Abort n) waits = (sym (call_allows-forget b (calls.Abort n) answers.Again) ∙ waits.0, tt)
-waits_whole ring b (calls.Status n) waits = (sym (call_allows-forget b (calls.Status n) answers.Again) ∙ waits.0, tt)
+waits_whole v ring b (calls.Listen host port backlog) waits = (sym (call_allows-forget v b (calls.Listen host port backlog) answers.Again) ∙ waits.0, tt)
+waits_whole v ring b (calls.Connect host lport rport) waits = (sym (call_allows-forget v b (calls.Connect host lport rport) answers.Again) ∙ waits.0, tt)
+waits_whole v ring b (calls.Await n) waits = (sym (call_allows-forget v b (calls.Await n) answers.Again) ∙ waits.0, tt)
+waits_whole v ring b (calls.Accept n) waits = (sym (call_allows-forget v b (calls.Accept n) answers.Again) ∙ waits.0, tt)
+waits_whole v ring b (calls.Recv n most) waits = (sym (call_allows-forget v b (calls.Recv n most) answers.Again) ∙ waits.0, tt)
+waits_whole v ring b (calls.Shut n) waits = (sym (call_allows-forget v b (calls.Shut n) answers.Again) ∙ waits.0, tt)
+waits_whole v ring b (calls.Close n) waits = (sym (call_allows-forget v b (calls.Close n) answers.Again) ∙ waits.0, tt)
+waits_whole v ring b (calls.Abort n) waits = (sym (call_allows-forget v b (calls.Abort n) answers.Again) ∙ waits.0, tt)
+waits_whole v ring b (calls.Status n) waits = (sym (call_allows-forget v b (calls.Status n) answers.Again) ∙ waits.0, tt)
 
 pub no_answer : (c : Core) (thread : ℕ) → KeptNoAnswer c thread → NoAnswer c thread
-no_answer c thread none call is = waits_whole c.ring (own_body c) call (none call is)
+no_answer c thread none call is = waits_whole c.recorded.header.version c.ring (own_body c) call (none call is)

@@ -7,6 +7,7 @@ use Rattle.case_forms.specs.declared.calls.Call.{Call}
 use Rattle.case_forms.specs.declared.calls.Call.TheVariants as calls
 use Rattle.case_forms.specs.declared.calls.State.{State}
 use Rattle.case_forms.specs.declared.calls.State.TheVariants as states
+use Rattle.case_forms.specs.declared.version.Version.{Version}
 use Rattle.streams.specs.Sent.{end_of}
 use Rattle.spec_tcp.specs.HostTcp.{HostTcp, socket_target}
 use Rattle.spec_tcp.specs.Calls.{call_allows}
@@ -59,9 +60,10 @@ abbrev pub IfSendingWaits : ℕ → HostTcp → Call → Type 0
 IfSendingWaits ring b (calls.Send n bytes) = WaitsAt ring b n (calls.Send n bytes)
 IfSendingWaits ring b call = Unit {0}
 
--- a call waits: it may be answered `again`, and a send waits for the handshake or for room in the ring
-abbrev pub Waits : ℕ → HostTcp → Call → Type 0
-Waits ring b call = (call_allows b call answers.Again ≡ true) × IfSendingWaits ring b call
+-- a call waits: it may be answered `again` in a text of this version, and a send waits for the handshake or for room in
+-- the ring
+abbrev pub Waits : Version → ℕ → HostTcp → Call → Type 0
+Waits v ring b call = (call_allows v b call answers.Again ≡ true) × IfSendingWaits ring b call
 
 -- each live socket number of an endpoint has its endpoint
 abbrev pub IsNamed : HostTcp → Type 0

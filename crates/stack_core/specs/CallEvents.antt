@@ -38,9 +38,12 @@ IsAttemptShort c tick thread d =
 
 -- no call of the thread is open without effect, or it waits
 abbrev pub NoAnswer : Core → ℕ → Type 0
-NoAnswer c thread = (call : Call) → turn_of thread (world c).threads ≡ Called call → Waits c.ring (own_body c) call
+NoAnswer c thread =
+    (call : Call) → turn_of thread (world c).threads ≡ Called call
+    → Waits c.recorded.header.version c.ring (own_body c) call
 
 -- the same, for what is kept
 abbrev pub KeptNoAnswer : Core → ℕ → Type 0
 KeptNoAnswer c thread =
-    (call : Call) → turn_of thread (world c).threads ≡ Called call → Waits c.ring (forget_body (own_body c)) call
+    (call : Call) → turn_of thread (world c).threads ≡ Called call
+    → Waits c.recorded.header.version c.ring (forget_body (own_body c)) call

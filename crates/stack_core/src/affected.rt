@@ -59,10 +59,10 @@ fn affected_by_call(body: &HostTcp, call: &Call) -> Affected
             Some(SocketTarget::ListenerAt(place)) => affected_in_queue(body, place),
             Some(SocketTarget::EndpointAt(_)) | None => Affected::Nobody,
         },
-        Call::Send(number, _) | Call::Recv(number, _) | Call::Shut(number) => {
-            affected_target(body.target(*number))
+        Call::Send(number, _) | Call::Recv(number, _) => affected_target(body.target(*number)),
+        Call::Shut(number) | Call::Close(number) | Call::Abort(number) => {
+            affected_by_end(body.target(*number))
         }
-        Call::Close(number) | Call::Abort(number) => affected_by_end(body.target(*number)),
         Call::Listen(_, _, _) | Call::Connect(_, _, _) | Call::Await(_) | Call::Status(_) => {
             Affected::Nobody
         }

@@ -156,6 +156,7 @@ impl HostCore {
         let body = self.recording.body();
         choose(
             self.recording.allocator(),
+            self.recording.header().version,
             body,
             call,
             next_socket(self.me(), body),

@@ -1,6 +1,6 @@
 -- What a step shows at another level of congestion control: the same, but for the congestion edge.
 use Rattle.std.proofs.Common.{◌≡◌, ℕ, suc, ◌≤◌, Bool, true, false, List, [], ◌∷◌, Option, None, Some, map, refl, ap, sym, ◌∙◌, arith}
-use Rattle.std.specs.Prelude.{if◌then◌else◌, slice_get, nat_eq, nat_lt}
+use Rattle.std.specs.Prelude.{◌&&◌, if◌then◌else◌, not, slice_get, nat_eq, nat_lt}
 use Rattle.std.specs.Map.{lookup}
 use Rattle.std.specs.Option.{option_map, option_map_or}
 use Rattle.std.proofs.lemmas.Bool.Decides.{nat_tests}
@@ -32,7 +32,7 @@ use Rattle.spec_tcp.specs.Arrives.{AtEndpoint, AtListener, Nobody, Taker, taker,
 use Rattle.spec_tcp.specs.Arrives.OtherStates.{connected_rules}
 use Rattle.spec_tcp.specs.Arrives.SynSent.{syn_sent_rules}
 use Rattle.spec_tcp.specs.Heard.{as_read}
-use Rattle.spec_tcp.specs.HostTcp.{HostTcp, place_of, queue_of, socket_target}
+use Rattle.spec_tcp.specs.HostTcp.{HostTcp, has_ended, place_of, queue_of, socket_target}
 use Rattle.spec_tcp.specs.Machine.{act_rules, aim, tcp, tcp_shape}
 use Rattle.spec_tcp.specs.Machine as acts
 use Rattle.spec_tcp.specs.Reset.{reset_rules}
@@ -314,7 +314,7 @@ accept_seen p host b _ _ = shows_same unseen refl
 
 close_seen : (p : Profile) (host : Host) (b : HostTcp) (aborts : Bool) (answer : Answer) (t : SocketTarget) → MayJudgeAll p b
     → ShowsHigher (observe_close host b aborts answer t) (observe_close host (body_by p b) aborts answer t)
-close_seen p host b aborts answer (ListenerAt l) may = by (is_done answer)
+close_seen p host b aborts answer (ListenerAt l) may = by (is_done answer && not (has_ended b l))
   where
     by : (done : Bool)
         → ShowsHigher (if done then record unseen { queueing = queueing.Closes host l } else unseen)
@@ -346,7 +346,7 @@ call_seen : (p : Profile) (host : Host) (b : HostTcp) (call : Call) (answer : An
 call_seen p host b (calls.Connect x lport rport) answer may = opened_seen p host b answer
 call_seen p host b (calls.Accept n) answer may = socket_target_seen p b n _ _ (accept_seen p host b answer)
 call_seen p host b (calls.Send n bytes) answer may = socket_target_seen p b n _ _ (λ t. other_seen p host b t may)
-call_seen p host b (calls.Shut n) answer may = socket_target_seen p b n _ _ (λ t. other_seen p host b t may)
+call_seen p host b (calls.Shut n) answer may = socket_target_seen p b n _ _ (λ t. close_seen p host b _ answer t may)
 call_seen p host b (calls.Close n) answer may = socket_target_seen p b n _ _ (λ t. close_seen p host b _ answer t may)
 call_seen p host b (calls.Abort n) answer may = socket_target_seen p b n _ _ (λ t. close_seen p host b _ answer t may)
 call_seen p host b _ answer may = shows_same unseen refl

@@ -3,6 +3,7 @@ use Rattle.std.proofs.Common.{◌≡◌, ℕ, Bool, false, List, [], ◌∷◌, 
 use Rattle.std.specs.Prelude.{if◌then◌else◌, ◌||◌}
 use Rattle.std.specs.Option.{option_map, option_map_or}
 use Rattle.case_forms.specs.Versions.{says_sender}
+use Rattle.case_forms.specs.declared.version.Version.TheVariants.{Six}
 use Rattle.case_forms.specs.declared.calls.Answer.{Answer}
 use Rattle.case_forms.specs.declared.calls.Answer.TheVariants as answers
 use Rattle.case_forms.specs.declared.calls.Call.{Call}
@@ -60,8 +61,8 @@ same_forget w = record { sockets = sockets; may = may }
 
     may : (host : Host) (target : SocketTarget) (awaited : Awaited)
         → may_wait (pick (forget w).hosts host).body target awaited ≡ may_wait (pick w.hosts host).body target awaited
-    may Zero target awaited = target-forget w.hosts.zero.body (call_for awaited) answers.Again target
-    may One target awaited = target-forget w.hosts.one.body (call_for awaited) answers.Again target
+    may Zero target awaited = target-forget Six w.hosts.zero.body (call_for awaited) answers.Again target
+    may One target awaited = target-forget Six w.hosts.one.body (call_for awaited) answers.Again target
 
 pub same_by : (p : Profile) (w : World tcp_shape) → SameSockets (world_by p w) w
 same_by p w = record { sockets = sockets; may = may }
@@ -72,8 +73,8 @@ same_by p w = record { sockets = sockets; may = may }
 
     may : (host : Host) (target : SocketTarget) (awaited : Awaited)
         → may_wait (pick (world_by p w).hosts host).body target awaited ≡ may_wait (pick w.hosts host).body target awaited
-    may Zero target awaited = target_allows_by p w.hosts.zero.body (call_for awaited) answers.Again target
-    may One target awaited = target_allows_by p w.hosts.one.body (call_for awaited) answers.Again target
+    may Zero target awaited = target_allows_by Six p w.hosts.zero.body (call_for awaited) answers.Again target
+    may One target awaited = target_allows_by Six p w.hosts.one.body (call_for awaited) answers.Again target
 
 pub same_self : (w : World tcp_shape) → SameSockets w w
 same_self w = record { sockets = λ host n. refl; may = λ host target awaited. refl }
@@ -121,6 +122,7 @@ module _ (v w : World tcp_shape) (same : SameSockets v w) where
   socket_same moment socket_change.Nothing a = refl
   socket_same moment (socket_change.Gives host n) a =
       ap (λ (o : Option SocketTarget). socket_given v moment host o a) (same.sockets host n) ∙ given_same moment host _ a
+  socket_same moment (socket_change.Shuts host target) a = again_same moment host target a
   socket_same moment (socket_change.Closes host target) a = refl
 
   pub waits_same : (moment : ℕ) (o : Option TouchedEndpoint) (c : CallChange) (k : SocketChange) (a : Waits)
@@ -173,6 +175,8 @@ module _ (v w : World tcp_shape) (same : SameSockets v w) (g h : Header) (aims :
 
   closing_same : (host : Host) (answer : Answer) (call : Call)
       → closing host (pick v.hosts host).body answer call ≡ closing host (pick w.hosts host).body answer call
+  closing_same host answers.Done (calls.Shut n) =
+      ap (λ (o : Option SocketTarget). option_map_or (socket_change.Shuts host) o socket_change.Nothing) (same.sockets host n)
   closing_same host answers.Done (calls.Close n) =
       ap (λ (o : Option SocketTarget). option_map_or (socket_change.Closes host) o socket_change.Nothing) (same.sockets host n)
   closing_same host answers.Done (calls.Abort n) =

@@ -10,7 +10,7 @@ ghost use Rattle.spec_network.specs.Hosts as network;
 ghost use Rattle.spec_network.specs.Hosts.{Effect};
 ghost use Rattle.spec_network.specs.Tables.{on, pick};
 ghost use Rattle.spec_tcp.specs.Bounds.{most_steps};
-ghost use Rattle.spec_tcp.specs.HostTcp.{given, queue_of};
+ghost use Rattle.spec_tcp.specs.HostTcp.{given, has_ended, queue_of};
 ghost use Rattle.spec_tcp.specs.Machine.{aim, tcp, tcp_shape};
 ghost use Rattle.spec_duties.specs.Observations.{observe_accept, accepting, observe_call, observe_close, is_done};
 ghost use Rattle.spec_duties.specs.Observations.{on_target};
@@ -81,6 +81,16 @@ fn observe_accept(host: Host, b: &HostTcp, answer: &Answer, target: SocketTarget
     }
 }
 
+// Whether `shut` ended the listener.
+fn has_ended(b: &HostTcp, place: u32) -> bool
+    ensures { result ≡ has_ended b.now place }
+{
+    match b.listener_at(place) {
+        Some(listener) => !listener.is_open,
+        None => false,
+    }
+}
+
 #[inline(always)]
 fn observe_close(
     host: Host,
@@ -96,7 +106,7 @@ fn observe_close(
             touching(at_place(host, b, Event::Calls { aborts }, place))
         }
         SocketTarget::ListenerAt(listener) => {
-            if is_done(answer) {
+            if is_done(answer) && !has_ended(b, listener) {
                 Observation {
                     queueing: Queueing::Closes { host, listener },
                     ..unseen()
@@ -154,11 +164,11 @@ fn observe_call(host: Host, b: &HostTcp, call: &Call, answer: &Answer) -> Observ
             Some(target) => observe_accept(host, b, answer, target),
             None => unseen(),
         },
-        Call::Send(number, _) | Call::Shut(number) => match b.target(*number) {
+        Call::Send(number, _) => match b.target(*number) {
             Some(target) => observe_other(host, b, target),
             None => unseen(),
         },
-        Call::Close(number) => match b.target(*number) {
+        Call::Shut(number) | Call::Close(number) => match b.target(*number) {
             Some(target) => observe_close(host, b, false, answer, target),
             None => unseen(),
         },

@@ -9,7 +9,8 @@ ghost use Rattle.spec_tcp.specs.HostTcp.{socket_target};
 ghost use Rattle.spec_tcp.specs.Machine.{aim, gives, tcp};
 ghost use Rattle.spec_duties.specs.Answering.{answer_seen, answering, answering_on, beginning, call_for, closing};
 ghost use Rattle.spec_duties.specs.Answering.{closing_on, is_again, judged_call, listener_seen, may_wait};
-ghost use Rattle.spec_duties.specs.Answering.{seen_again, socket_changing, socket_given, socket_noted, touched_seen};
+ghost use Rattle.spec_duties.specs.Answering.{seen_again, shutting_on, socket_changing, socket_given};
+ghost use Rattle.spec_duties.specs.Answering.{socket_noted, touched_seen};
 ghost use Rattle.spec_duties.specs.Answering.{waitable, waiting_on, waits_after};
 ghost use Rattle.spec_duties.specs.Observations.{observe_turn, unseen};
 ghost use Rattle.spec_duties.specs.declared.answering.CallChange.TheVariants as call_change;
@@ -17,7 +18,7 @@ ghost use Rattle.spec_duties.specs.declared.answering.SocketChange.TheVariants a
 
 use crate::calls::{giver, meant};
 use crate::observations::unseen;
-use case_forms::{Answer, Call, Header, Host, OutOfMemory};
+use case_forms::{Answer, Call, Header, Host, OutOfMemory, Version};
 use duties::Duties;
 use endpoint_state::{HostTcp, World};
 use spec_duties::{
@@ -155,6 +156,15 @@ fn gives(call: &Call, answer: &Answer) -> Option<u32>
     }
 }
 
+fn shutting_on(host: Host, b: &HostTcp, socket: u32) -> SocketChange
+    ensures { result ≡ shutting_on host b.now socket }
+{
+    match b.target(socket) {
+        Some(target) => SocketChange::Shuts { host, target },
+        None => SocketChange::Nothing,
+    }
+}
+
 fn closing_on(host: Host, b: &HostTcp, socket: u32) -> SocketChange
     ensures { result ≡ closing_on host b.now socket }
 {
@@ -164,7 +174,7 @@ fn closing_on(host: Host, b: &HostTcp, socket: u32) -> SocketChange
     }
 }
 
-// Whether the effect of a call, with this answer, ends the socket number.
+// Whether the effect of a call, with this answer, ends the socket number, or shuts what it names.
 fn closing(host: Host, b: &HostTcp, answer: &Answer, call: &Call) -> SocketChange
     ensures { result ≡ closing host b.now answer.now call.now }
 {
@@ -172,6 +182,7 @@ fn closing(host: Host, b: &HostTcp, answer: &Answer, call: &Call) -> SocketChang
         return SocketChange::Nothing;
     }
     match call {
+        Call::Shut(socket) => shutting_on(host, b, *socket),
         Call::Close(socket) | Call::Abort(socket) => closing_on(host, b, *socket),
         Call::Listen(_, _, _)
         | Call::Connect(_, _, _)
@@ -179,7 +190,6 @@ fn closing(host: Host, b: &HostTcp, answer: &Answer, call: &Call) -> SocketChang
         | Call::Await(_)
         | Call::Send(_, _)
         | Call::Recv(_, _)
-        | Call::Shut(_)
         | Call::Status(_) => SocketChange::Nothing,
     }
 }
@@ -205,7 +215,7 @@ fn may_wait(b: &HostTcp, target: SocketTarget, awaited: Awaited) -> bool
         Awaited::Connection => Call::Await(0),
         Awaited::Child => Call::Accept(0),
     };
-    b.target_allows(&call, &Answer::Again, target)
+    b.target_allows(Version::Six, &call, &Answer::Again, target)
 }
 
 // Which calls on a socket may have to wait.
@@ -327,6 +337,7 @@ fn note_socket(
             let target = world.body(host).target(socket);
             note_given(world, duties, moment, host, target)
         }
+        SocketChange::Shuts { host, target } => see_again(world, duties, moment, host, target),
         SocketChange::Closes { host, target } => duties.note_closed(host, target),
     }
 }

@@ -201,6 +201,9 @@ fn describe_listener(
         return Ok(());
     };
     let (host, port, children) = (HostName(host), listener.port, listener.queue.len());
+    if !listener.is_open {
+        return writeln!(out, "{host}'s listener on port {port} was shut");
+    }
     writeln!(
         out,
         "before the step, {host}'s listener on port {port}, children in its queue: {children}"

@@ -2,20 +2,33 @@
 
 ghost use Rattle.spec_tcp.specs.Bounds.{HasRoom};
 ghost use Rattle.spec_tcp.specs.Calls.Close.{after_shut, after_close, shut_down, after_abort, orphaned, ended_state};
-ghost use Rattle.spec_tcp.specs.Calls.Close.{resets_at_abort, shut_allows};
+ghost use Rattle.spec_tcp.specs.Calls.Close.{is_shut_already, resets_at_abort, shut_allows};
 ghost use Rattle.spec_tcp.specs.Forgetting.{forget_endpoint};
 ghost use Rattle.std.specs.Prelude.{◌≡◌};
 
 use crate::calls::tells_fault;
-use case_forms::{Answer, State};
+use case_forms::{Answer, State, Version};
 use spec_tcp::Endpoint;
 
-pub(crate) fn shut_allows(endpoint: &Endpoint, answer: &Answer) -> bool
-    ensures { result ≡ shut_allows endpoint.now answer.now }
+// Sending was ended, or the endpoint is CLOSED: from version 6 on, `shut` may say so (RFC 9293, 3.10.4).
+fn is_shut_already(version: Version, endpoint: &Endpoint) -> bool
+    ensures { result ≡ is_shut_already version endpoint.now }
+{
+    version.says_sender() && (endpoint.stream.ended || endpoint.state.is_closed())
+}
+
+pub(crate) fn shut_allows(version: Version, endpoint: &Endpoint, answer: &Answer) -> bool
+    ensures { result ≡ shut_allows version endpoint.now answer.now }
 {
     match answer {
-        Answer::Done => endpoint.fault.is_none() && !endpoint.state.is_syn_sent(),
-        Answer::NotConn => endpoint.fault.is_some() || endpoint.state.is_syn_sent(),
+        Answer::Done => {
+            endpoint.fault.is_none() && (version.says_sender() || !endpoint.state.is_syn_sent())
+        }
+        Answer::NotConn => {
+            endpoint.fault.is_some()
+                || endpoint.state.is_syn_sent()
+                || is_shut_already(version, endpoint)
+        }
         Answer::Given(_)
         | Answer::Bytes(_)
         | Answer::Again
@@ -30,7 +43,7 @@ pub(crate) fn shut_allows(endpoint: &Endpoint, answer: &Answer) -> bool
     }
 }
 
-/// `shut`: sending is ended, and a FIN is to be sent (RFC 9293, 3.10.4).
+/// `shut`: sending is ended, and a FIN is to be sent (RFC 9293, 3.10.4). An endpoint in SYN-SENT becomes CLOSED.
 pub fn shut(endpoint: &mut Endpoint)
     requires { HasRoom endpoint.old }
     ensures { endpoint.new ≡ forget_endpoint (after_shut endpoint.old) }
@@ -43,12 +56,7 @@ pub fn close(endpoint: &mut Endpoint)
     requires { HasRoom endpoint.old }
     ensures { endpoint.new ≡ forget_endpoint (after_close endpoint.old) }
 {
-    if endpoint.state.is_syn_sent() {
-        endpoint.stream.ended = true;
-        shut_down(endpoint);
-    } else {
-        end_sending(endpoint);
-    }
+    end_sending(endpoint);
     endpoint.closed = true;
 }
 
@@ -101,7 +109,11 @@ fn end_sending(endpoint: &mut Endpoint)
     ensures { endpoint.new ≡ after_shut endpoint.old }
 {
     endpoint.stream.ended = true;
-    endpoint.state = ended_state(endpoint.state);
+    if endpoint.state.is_syn_sent() {
+        shut_down(endpoint);
+    } else {
+        endpoint.state = ended_state(endpoint.state);
+    }
 }
 
 fn resets_at_abort(state: State) -> bool

@@ -1,13 +1,13 @@
 //! RECEIVE: its answers, and the endpoint afterwards.
 
 ghost use Rattle.spec_tcp.specs.Bounds.{HasRoom};
-ghost use Rattle.spec_tcp.specs.Calls.Receive.{after_recv, is_read_out, recv_allows};
+ghost use Rattle.spec_tcp.specs.Calls.Receive.{after_recv, is_read_out, is_unconnected, recv_allows};
 ghost use Rattle.spec_tcp.specs.Forgetting.{forget_endpoint};
 ghost use Rattle.std.specs.Prelude.{◌≡◌, ◌≤◌, length};
 ghost use Rattle.streams.specs.Received.{waiting};
 
 use crate::calls::tells_fault;
-use case_forms::Answer;
+use case_forms::{Answer, Version};
 use spec_tcp::Endpoint;
 
 fn is_read_out(endpoint: &Endpoint) -> bool
@@ -16,8 +16,19 @@ fn is_read_out(endpoint: &Endpoint) -> bool
     endpoint.stream.receive.is_ended() && !endpoint.stream.receive.has_waiting()
 }
 
-pub(crate) fn recv_allows(endpoint: &Endpoint, most: u16, answer: &Answer) -> bool
-    ensures { result ≡ recv_allows endpoint.now most answer.now }
+// There is no connection: none yet, or from version 6 on, one that failed (RFC 9293, 3.10.3).
+fn is_unconnected(version: Version, endpoint: &Endpoint) -> bool
+    ensures { result ≡ is_unconnected version endpoint.now }
+{
+    if endpoint.fault.is_some() {
+        version.says_sender()
+    } else {
+        !endpoint.is_up()
+    }
+}
+
+pub(crate) fn recv_allows(version: Version, endpoint: &Endpoint, most: u16, answer: &Answer) -> bool
+    ensures { result ≡ recv_allows version endpoint.now most answer.now }
 {
     match answer {
         Answer::Bytes(bytes) => {
@@ -31,7 +42,7 @@ pub(crate) fn recv_allows(endpoint: &Endpoint, most: u16, answer: &Answer) -> bo
                 && !endpoint.stream.receive.has_waiting()
                 && !is_read_out(endpoint)
         }
-        Answer::NotConn => endpoint.fault.is_none() && !endpoint.is_up(),
+        Answer::NotConn => is_unconnected(version, endpoint),
         Answer::Done
         | Answer::Given(_)
         | Answer::Closed

@@ -6,7 +6,7 @@ ghost use Rattle.spec_tcp.specs.Forgetting.{forget_endpoint};
 ghost use Rattle.std.specs.Prelude.{◌≡◌, OnOk, OnErr, take};
 
 use crate::calls::{is_closed_answer, is_not_connected, tells_fault};
-use case_forms::{Answer, State};
+use case_forms::{Answer, State, Version};
 use segment::OutOfMemory;
 use spec_tcp::Endpoint;
 
@@ -48,11 +48,17 @@ fn open_send_allows(state: State, bytes: &[u8], answer: &Answer) -> bool
     }
 }
 
-pub(crate) fn send_allows(endpoint: &Endpoint, bytes: &[u8], answer: &Answer) -> bool
-    ensures { result ≡ send_allows endpoint.now bytes.now answer.now }
+pub(crate) fn send_allows(
+    version: Version,
+    endpoint: &Endpoint,
+    bytes: &[u8],
+    answer: &Answer,
+) -> bool
+    ensures { result ≡ send_allows version endpoint.now bytes.now answer.now }
 {
     if endpoint.fault.is_some() {
-        return tells_fault(endpoint, answer) || (endpoint.stream.ended && is_closed_answer(answer));
+        return tells_fault(endpoint, answer)
+            || ((version.says_sender() || endpoint.stream.ended) && is_closed_answer(answer));
     }
     if endpoint.stream.ended {
         return is_closed_answer(answer);

@@ -16,58 +16,65 @@ ghost use Rattle.spec_tcp.specs.Calls.Accept.{accepted_from, after_accept, liste
 ghost use Rattle.spec_tcp.specs.Calls.{after_call, call_allows, change, gives_or_in_use, socket_allows, target_allows};
 ghost use Rattle.spec_tcp.specs.Endpoints.{new_endpoint};
 ghost use Rattle.spec_tcp.specs.Forgetting.{forget_body};
+ghost use Rattle.spec_tcp.specs.Signals.{profile_of};
 ghost use Rattle.endpoint_state.specs.Waiting.{AreWaiting};
 
 use crate::host_tcp::HostTcp;
-use case_forms::{Answer, Call, State};
-use endpoint::{endpoint_allows, listener_allows};
+use case_forms::{Answer, Call, Header, State, Version};
+use endpoint::{endpoint_allows, listener_allows, open_shut_allows};
 use segment::OutOfMemory;
-use spec_tcp::{Endpoint, Listener, Queue, Socket, SocketTarget};
+use spec_tcp::{Endpoint, Listener, Queue, Socket, SocketTarget, profile_of};
 use std::alloc::Global;
 use tables::Table;
 use window_rules::Profile;
 
 impl HostTcp {
-    /// Whether a call may have this answer (RFC 9293, 3.9.1 and 3.10).
-    pub(crate) fn allows(&self, call: &Call, answer: &Answer) -> bool
-        ensures { result ≡ call_allows self.now call.now answer.now }
+    /// Whether a call may have this answer in a text of this version (RFC 9293, 3.9.1 and 3.10).
+    pub(crate) fn allows(&self, version: Version, call: &Call, answer: &Answer) -> bool
+        ensures { result ≡ call_allows version self.now call.now answer.now }
     {
         match call {
             Call::Listen(_, port, _) => gives_or_in_use(self.is_listening(*port), answer),
             Call::Connect(_, lport, rport) => {
                 gives_or_in_use(self.is_connected(*lport, *rport), answer)
             }
-            Call::Await(number) => self.socket_allows(*number, call, answer),
-            Call::Accept(number) => self.socket_allows(*number, call, answer),
-            Call::Send(number, _) => self.socket_allows(*number, call, answer),
-            Call::Recv(number, _) => self.socket_allows(*number, call, answer),
-            Call::Shut(number) => self.socket_allows(*number, call, answer),
-            Call::Close(number) => self.socket_allows(*number, call, answer),
-            Call::Abort(number) => self.socket_allows(*number, call, answer),
-            Call::Status(number) => self.socket_allows(*number, call, answer),
+            Call::Await(number) => self.socket_allows(version, *number, call, answer),
+            Call::Accept(number) => self.socket_allows(version, *number, call, answer),
+            Call::Send(number, _) => self.socket_allows(version, *number, call, answer),
+            Call::Recv(number, _) => self.socket_allows(version, *number, call, answer),
+            Call::Shut(number) => self.socket_allows(version, *number, call, answer),
+            Call::Close(number) => self.socket_allows(version, *number, call, answer),
+            Call::Abort(number) => self.socket_allows(version, *number, call, answer),
+            Call::Status(number) => self.socket_allows(version, *number, call, answer),
         }
     }
 
-    fn socket_allows(&self, number: u32, call: &Call, answer: &Answer) -> bool
-        ensures { result ≡ socket_allows self.now number call.now answer.now }
+    fn socket_allows(&self, version: Version, number: u32, call: &Call, answer: &Answer) -> bool
+        ensures { result ≡ socket_allows version self.now number call.now answer.now }
     {
         match self.target(number) {
-            Some(target) => self.target_allows(call, answer, target),
+            Some(target) => self.target_allows(version, call, answer, target),
             None => matches!(answer, Answer::BadSocket),
         }
     }
 
-    /// Whether a call on a live socket number that names this target may have this answer.
-    pub fn target_allows(&self, call: &Call, answer: &Answer, target: SocketTarget) -> bool
-        ensures { result ≡ target_allows self.now call.now answer.now target }
+    /// Whether a call on a live socket number that names this target may have this answer in a text of this version.
+    pub fn target_allows(
+        &self,
+        version: Version,
+        call: &Call,
+        answer: &Answer,
+        target: SocketTarget,
+    ) -> bool
+        ensures { result ≡ target_allows version self.now call.now answer.now target }
     {
         match target {
             SocketTarget::ListenerAt(place) => match self.listener_at(place) {
-                Some(listener) => listener_allows(&listener.queue, call, answer),
-                None => childless_allows(call, answer),
+                Some(listener) => listener_allows(version, listener, call, answer),
+                None => childless_allows(version, call, answer),
             },
             SocketTarget::EndpointAt(place) => match self.endpoint_at(place) {
-                Some(endpoint) => endpoint_allows(endpoint, call, answer),
+                Some(endpoint) => endpoint_allows(version, endpoint, call, answer),
                 None => false,
             },
         }
@@ -143,14 +150,16 @@ impl HostTcp {
         }
     }
 
-    // `shut`: sending is ended.
+    // `shut`: sending is ended, or a listener ends; the socket number stays live.
     #[tactic(auto, using(crate::proofs::BodyLemmas::body_same))]
     fn shut(&mut self, number: u32)
         requires { All HasRoom self.old.endpoints }
-        ensures { self.new ≡ forget_body (change self.old number after_shut) }
+        ensures { self.new ≡ forget_body (after_gone self.old number after_shut self.old.sockets) }
     {
-        if let Some(SocketTarget::EndpointAt(place)) = self.target(number) {
-            self.endpoints.shut(place);
+        match self.target(number) {
+            Some(SocketTarget::EndpointAt(place)) => self.endpoints.shut(place),
+            Some(SocketTarget::ListenerAt(place)) => self.end_listener(place),
+            None => {}
         }
     }
 
@@ -170,14 +179,18 @@ impl HostTcp {
     #[tactic(auto, using(crate::proofs::BodyLemmas::body_same))]
     fn close(&mut self, number: u32)
         requires { All HasRoom self.old.endpoints }
-        ensures { self.new ≡ forget_body (after_gone self.old number after_close) }
+        ensures { self.new ≡ forget_body
+            (after_gone self.old number after_close (dead self.old.sockets number)) }
     {
         match self.target(number) {
             Some(SocketTarget::EndpointAt(place)) => {
                 self.endpoints.close(place);
                 retire(&mut self.sockets, number);
             }
-            Some(SocketTarget::ListenerAt(place)) => self.end_listener(place, number),
+            Some(SocketTarget::ListenerAt(place)) => {
+                self.end_listener(place);
+                retire(&mut self.sockets, number);
+            }
             None => {}
         }
     }
@@ -186,27 +199,29 @@ impl HostTcp {
     #[tactic(auto, using(crate::proofs::BodyLemmas::body_same))]
     fn abort(&mut self, number: u32)
         requires { All HasRoom self.old.endpoints }
-        ensures { self.new ≡ forget_body (after_gone self.old number after_abort) }
+        ensures { self.new ≡ forget_body
+            (after_gone self.old number after_abort (dead self.old.sockets number)) }
     {
         match self.target(number) {
             Some(SocketTarget::EndpointAt(place)) => {
                 self.endpoints.abort(place);
                 retire(&mut self.sockets, number);
             }
-            Some(SocketTarget::ListenerAt(place)) => self.end_listener(place, number),
+            Some(SocketTarget::ListenerAt(place)) => {
+                self.end_listener(place);
+                retire(&mut self.sockets, number);
+            }
             None => {}
         }
     }
 
     // A listener ends, and with it its children that were not accepted.
-    fn end_listener(&mut self, place: u32, number: u32)
+    fn end_listener(&mut self, place: u32)
         requires { All HasRoom self.old.endpoints }
-        ensures { self.new ≡ forget_body
-            (record (without_listener self.old place) { sockets = dead self.old.sockets number }) }
+        ensures { self.new ≡ forget_body (without_listener self.old place) }
     {
         self.listeners.close(place);
         self.endpoints.orphan(place);
-        retire(&mut self.sockets, number);
     }
 
     // `accept`: the first child of the listener's queue gets a socket number.
@@ -251,8 +266,8 @@ impl HostTcp {
         }
     }
 
-    // What ends once a call is answered `ok`: for `shut` the sending, for `close` and `abort` what the socket number
-    // names.
+    // What ends once a call is answered `ok`: for `shut` the sending or a listener, for `close` and `abort` what the
+    // socket number names.
     #[tactic(auto, using(crate::proofs::BodyLemmas::body_same))]
     fn end(&mut self, profile: Profile, call: &Call)
         requires { All HasRoom self.old.endpoints }
@@ -278,17 +293,19 @@ impl HostTcp {
     pub(crate) fn do_call(
         &mut self,
         alloc: Global,
-        profile: Profile,
+        header: &Header,
         call: &Call,
         answer: &Answer,
     ) -> Result<(), OutOfMemory>
-        requires allowed { call_allows self.old call.now answer.now ≡ true }
+        requires allowed { call_allows header.now.version self.old call.now answer.now ≡ true }
         requires kept { All HasRoom self.old.endpoints }
         requires endpoints { length self.old.endpoints + 1 < 2 ^ 32 }
         requires listeners { length self.old.listeners + 1 < 2 ^ 32 }
-        ensures ok { OnOk result (self.new ≡ forget_body (after_call profile self.old call.now answer.now)) }
+        ensures ok { OnOk result
+            (self.new ≡ forget_body (after_call (profile_of header.now) self.old call.now answer.now)) }
         ensures err { OnErr result (self.new ≡ self.old) }
     {
+        let profile = profile_of(header);
         match (call, answer) {
             (Call::Listen(_, port, backlog), Answer::Given(number)) => {
                 self.listen(alloc, *number, *port, *backlog)
@@ -345,15 +362,16 @@ fn gives_or_in_use(used: bool, answer: &Answer) -> bool
     }
 }
 
-// A call on a listener with no child.
-fn childless_allows(call: &Call, answer: &Answer) -> bool
-    ensures { result ≡ listener_allows [] call.now answer.now }
+// A call on an open listener with no child.
+fn childless_allows(version: Version, call: &Call, answer: &Answer) -> bool
+    ensures { result ≡ listener_allows version false [] call.now answer.now }
 {
     match call {
         Call::Accept(_) => matches!(answer, Answer::Again),
-        Call::Await(_) | Call::Send(_, _) | Call::Recv(_, _) | Call::Shut(_) => {
+        Call::Await(_) | Call::Send(_, _) | Call::Recv(_, _) => {
             matches!(answer, Answer::NotConn)
         }
+        Call::Shut(_) => open_shut_allows(version, answer),
         Call::Close(_) | Call::Abort(_) => matches!(answer, Answer::Done),
         Call::Status(_) => matches!(answer, Answer::State(State::Listen)),
         Call::Listen(_, _, _) | Call::Connect(_, _, _) => false,

@@ -1,22 +1,29 @@
 -- CLOSE and ABORT: the answers they may have, and the host afterwards (RFC 9293, 3.10.4 and 3.10.5).
-use Rattle.std.specs.Prelude.{ℕ, ◌==◌, Bool, true, false, not, ◌&&◌, ◌||◌, if◌then◌else◌, map, is_some}
+use Rattle.std.specs.Prelude.{ℕ, ◌==◌, Bool, true, false, not, ◌&&◌, ◌||◌, if◌then◌else◌, List, map, is_some}
 use Rattle.std.specs.Option.{option_map_or}
-use Rattle.case_forms.specs.States.{is_syn_sent}
+use Rattle.case_forms.specs.States.{is_closed, is_syn_sent}
+use Rattle.case_forms.specs.Versions.{says_sender}
 use Rattle.case_forms.specs.declared.calls.Answer.{Answer}
 use Rattle.case_forms.specs.declared.calls.Answer.TheVariants as answers
 use Rattle.case_forms.specs.declared.calls.State.{State}
 use Rattle.case_forms.specs.declared.calls.State.TheVariants as states
+use Rattle.case_forms.specs.declared.version.Version.{Version}
 use Rattle.streams.specs.Lists.{modify}
 use Rattle.timer_rules.specs.Timers.{all_stopped}
-use Rattle.spec_tcp.specs.Endpoints.{Endpoint, SocketTarget, ListenerAt, EndpointAt}
-use Rattle.spec_tcp.specs.HostTcp.{HostTcp, with_endpoint, socket_target, dead}
+use Rattle.spec_tcp.specs.Endpoints.{Endpoint, Socket, SocketTarget, ListenerAt, EndpointAt}
+use Rattle.spec_tcp.specs.HostTcp.{HostTcp, with_endpoint, socket_target}
 use Rattle.spec_tcp.specs.Calls.Await.{tells_fault}
 
--- `shut` (RFC 9293, 3.10.4)
-abbrev pub shut_allows : Endpoint → Answer → Bool
-shut_allows e answers.Done = not (is_some e.fault) && not (is_syn_sent e.state)
-shut_allows e answers.NotConn = is_some e.fault || is_syn_sent e.state
-shut_allows e answer = tells_fault e answer
+-- sending was ended, or the endpoint is CLOSED: from version 6 on, `shut` may say so (RFC 9293, 3.10.4: "error:
+-- connection closing", "error: connection does not exist")
+abbrev pub is_shut_already : Version → Endpoint → Bool
+is_shut_already v e = says_sender v && (e.stream.ended || is_closed e.state)
+
+-- `shut`; in SYN-SENT it may end the connection from version 6 on (RFC 9293, 3.10.4)
+abbrev pub shut_allows : Version → Endpoint → Answer → Bool
+shut_allows v e answers.Done = not (is_some e.fault) && (says_sender v || not (is_syn_sent e.state))
+shut_allows v e answers.NotConn = is_some e.fault || is_syn_sent e.state || is_shut_already v e
+shut_allows v e answer = tells_fault e answer
 
 -- the endpoint is CLOSED: its timers are off
 abbrev pub shut_down : Endpoint → Endpoint
@@ -28,15 +35,18 @@ ended_state states.Established = states.FinWait1
 ended_state states.CloseWait = states.LastAck
 ended_state state = state
 
--- `shut`: sending is ended
-abbrev pub after_shut : Endpoint → Endpoint
-after_shut e = record e { stream = record e.stream { ended = true }; state = ended_state e.state }
+-- sending is ended
+abbrev pub after_ending : Endpoint → Endpoint
+after_ending e = record e { stream = record e.stream { ended = true }; state = ended_state e.state }
 
--- `close`: like `shut`, and an endpoint in SYN-SENT is CLOSED
+-- `shut`: sending is ended, and an endpoint in SYN-SENT is CLOSED
+abbrev pub after_shut : Endpoint → Endpoint
+after_shut e =
+    if is_syn_sent e.state then shut_down (record e { stream = record e.stream { ended = true } }) else after_ending e
+
+-- `close`: like `shut`, and the user is done with the endpoint
 abbrev pub after_close : Endpoint → Endpoint
-after_close e =
-    record (if is_syn_sent e.state then shut_down (record e { stream = record e.stream { ended = true } })
-    else after_shut e) { closed = true }
+after_close e = record (after_shut e) { closed = true }
 
 -- an abort in these states makes a reset due (RFC 9293, 3.10.5)
 abbrev pub resets_at_abort : State → Bool
@@ -64,11 +74,12 @@ without_listener b l =
           (λ x. record x { is_open = false });
     }
 
--- `close` and `abort` of what a socket number names
+-- `shut`, `close` and `abort` of what a socket number names
 abbrev pub target_gone : HostTcp → SocketTarget → (Endpoint → Endpoint) → HostTcp
 target_gone b (ListenerAt l) f = without_listener b l
 target_gone b (EndpointAt i) f = with_endpoint b i f
 
-abbrev pub after_gone : HostTcp → ℕ → (Endpoint → Endpoint) → HostTcp
-after_gone b n f =
-    option_map_or (λ target. record (target_gone b target f) { sockets = dead b.sockets n }) (socket_target b n) b
+-- the host then, with these socket numbers
+abbrev pub after_gone : HostTcp → ℕ → (Endpoint → Endpoint) → List (ℕ × Socket) → HostTcp
+after_gone b n f sockets =
+    option_map_or (λ target. record (target_gone b target f) { sockets = sockets }) (socket_target b n) b

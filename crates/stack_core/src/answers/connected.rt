@@ -13,7 +13,7 @@ ghost use Rattle.streams.specs.Received.{waiting};
 ghost use Rattle.stack_core.specs.Answers.{IfSendWaits, IsOnSocket, SendWaits, is_again, unacknowledged};
 ghost use Rattle.stack_core.specs.Cores.{IsCallWithin};
 
-use case_forms::{Answer, Call, OutOfMemory, State};
+use case_forms::{Answer, Call, OutOfMemory, State, Version};
 use endpoint_state::Endpoint;
 use segment::Bytes;
 use spec_tcp::Fault;
@@ -22,24 +22,25 @@ use std::alloc::Global;
 /// The answer of a call on a socket number of this endpoint. None: the call waits. The error is that memory ran out.
 pub(crate) fn at_endpoint(
     alloc: Global,
+    version: Version,
     endpoint: &Endpoint,
     call: &Call,
     ring: u16,
 ) -> Result<Option<Answer>, OutOfMemory>
     requires within { IsCallWithin call.now }
     requires socket { IsOnSocket call.now }
-    ensures some { IfOk result (λ o. IfSome o (λ a. endpoint_allows endpoint.now call.now a ≡ true)) }
+    ensures some { IfOk result (λ o. IfSome o (λ a. endpoint_allows version endpoint.now call.now a ≡ true)) }
     ensures once { IfOk result (λ o. IfSome o (λ a. is_again a ≡ false)) }
     ensures gives { IfOk result (λ o. IfSome o (λ a. (n : ℕ) → gives call.now a ≡ Some n → ⊥)) }
-    ensures none { IfOk result (λ o. IfNone o ((endpoint_allows endpoint.now call.now answers.Again ≡ true)
+    ensures none { IfOk result (λ o. IfNone o ((endpoint_allows version endpoint.now call.now answers.Again ≡ true)
         × IfSendWaits ring endpoint.now call.now)) }
 {
     match call {
         Call::Await(_) => Ok(await_answer(endpoint)),
         Call::Accept(_) => Ok(Some(Answer::NotConn)),
-        Call::Send(_, bytes) => Ok(send_answer(endpoint, bytes, ring)),
-        Call::Recv(_, most) => recv_answer(alloc, endpoint, *most),
-        Call::Shut(_) => Ok(Some(shut_answer(endpoint))),
+        Call::Send(_, bytes) => Ok(send_answer(version, endpoint, bytes, ring)),
+        Call::Recv(_, most) => recv_answer(alloc, version, endpoint, *most),
+        Call::Shut(_) => Ok(Some(shut_answer(version, endpoint))),
         Call::Close(_) | Call::Abort(_) => Ok(Some(Answer::Done)),
         Call::Status(_) => Ok(Some(Answer::State(endpoint.state))),
         Call::Listen(_, _, _) | Call::Connect(_, _, _) => unreachable!(),
@@ -75,8 +76,8 @@ fn await_answer(endpoint: &Endpoint) -> Option<Answer>
     }
 }
 
-fn shut_answer(endpoint: &Endpoint) -> Answer
-    ensures allowed { shut_allows endpoint.now result ≡ true }
+fn shut_answer(version: Version, endpoint: &Endpoint) -> Answer
+    ensures allowed { shut_allows version endpoint.now result ≡ true }
     ensures once { is_again result ≡ false }
 {
     match endpoint.fault {
@@ -91,11 +92,11 @@ fn shut_answer(endpoint: &Endpoint) -> Answer
     }
 }
 
-fn send_answer(endpoint: &Endpoint, bytes: &Bytes, ring: u16) -> Option<Answer>
+fn send_answer(version: Version, endpoint: &Endpoint, bytes: &Bytes, ring: u16) -> Option<Answer>
     requires some { 1 ≤ length bytes.now }
-    ensures some { IfSome result (λ a. send_allows endpoint.now bytes.now a ≡ true) }
+    ensures some { IfSome result (λ a. send_allows version endpoint.now bytes.now a ≡ true) }
     ensures once { IfSome result (λ a. is_again a ≡ false) }
-    ensures none { IfNone result ((send_allows endpoint.now bytes.now answers.Again ≡ true)
+    ensures none { IfNone result ((send_allows version endpoint.now bytes.now answers.Again ≡ true)
         × SendWaits ring endpoint.now) }
 {
     match endpoint.fault {
@@ -138,14 +139,19 @@ fn unacknowledged(endpoint: &Endpoint) -> u64
         .saturating_sub(endpoint.stream.snd_una.max(1))
 }
 
-fn recv_answer(alloc: Global, endpoint: &Endpoint, most: u16) -> Result<Option<Answer>, OutOfMemory>
+fn recv_answer(
+    alloc: Global,
+    version: Version,
+    endpoint: &Endpoint,
+    most: u16,
+) -> Result<Option<Answer>, OutOfMemory>
     requires most { 1 ≤ most }
-    ensures some { IfOk result (λ o. IfSome o (λ a. recv_allows endpoint.now most a ≡ true)) }
+    ensures some { IfOk result (λ o. IfSome o (λ a. recv_allows version endpoint.now most a ≡ true)) }
     ensures once { IfOk result (λ o. IfSome o (λ a. is_again a ≡ false)) }
-    ensures none { IfOk result (λ o. IfNone o (recv_allows endpoint.now most answers.Again ≡ true)) }
+    ensures none { IfOk result (λ o. IfNone o (recv_allows version endpoint.now most answers.Again ≡ true)) }
 {
     if endpoint.stream.receive.has_waiting() {
-        return Ok(Some(read_answer(alloc, endpoint, most)?));
+        return Ok(Some(read_answer(alloc, version, endpoint, most)?));
     }
     if endpoint.stream.receive.is_ended() {
         return Ok(Some(Answer::Eof));
@@ -158,10 +164,15 @@ fn recv_answer(alloc: Global, endpoint: &Endpoint, most: u16) -> Result<Option<A
 
 // The bytes that wait, as many as were requested.
 #[tactic(auto, using(crate::proofs::AnswerLemmas::read_allowed))]
-fn read_answer(alloc: Global, endpoint: &Endpoint, most: u16) -> Result<Answer, OutOfMemory>
+fn read_answer(
+    alloc: Global,
+    version: Version,
+    endpoint: &Endpoint,
+    most: u16,
+) -> Result<Answer, OutOfMemory>
     requires most { 1 ≤ most }
     requires waiting { nat_lt 0 (length (waiting endpoint.now.stream.receive)) ≡ true }
-    ensures allowed { IfOk result (λ a. recv_allows endpoint.now most a ≡ true) }
+    ensures allowed { IfOk result (λ a. recv_allows version endpoint.now most a ≡ true) }
     ensures once { IfOk result (λ a. is_again a ≡ false) }
 {
     let bytes = endpoint.stream.receive.read(alloc, most as usize)?;

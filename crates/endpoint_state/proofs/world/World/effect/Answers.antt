@@ -31,7 +31,7 @@ invariant_of-self-2 c =
     c.in_ok-given.ensures.same))
     c.in_ok-given.ensures.small
     (called_is_permitted c.self.inside.header p.world c.args.thread c.in_ok-call.call.now c.args.answer.now c.in_ok-call.ensures.call
-    (sym (c.in_ok-host.ensures.rule c.self.inside.header)))
+    (sym c.in_ok-host.ensures.rule))
     c.self.invariant
 
 pub returns-in_err-call-clause-fault : goal.returns-in_err-call-clause-fault
