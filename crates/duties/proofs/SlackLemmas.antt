@@ -12,7 +12,8 @@ use Rattle.verdict.proofs.RuleLemmas.{none_all}
 use Rattle.std.specs.List.{AllByRecursion}
 use Rattle.duties.proofs.CreditRuns.{left_earned, left_exchanged, left_some, left_wider, order_earned, order_spent, some_left}
 use Rattle.verdict.specs.declared.rule.Rule.{Rule}
-use Rattle.spec_network.specs.Hosts.{Stamped, World}
+use Rattle.spec_network.specs.Hosts as network
+use Rattle.spec_network.specs.Hosts.{HostStep, Stamped, Step, World}
 use Rattle.spec_network.specs.Tables.{Both, on, pick, waiting, with_host}
 use Rattle.spec_tcp.specs.Machine.{tcp_shape}
 use Rattle.spec_tcp.specs.declared.endpoint.Endpoint.{Endpoint}
@@ -20,7 +21,8 @@ use Rattle.spec_duties.specs.Acknowledge.{acknowledge_due}
 use Rattle.spec_duties.specs.Answering.{Waits, answer_due, answer_since, answered_since, any_call, is_unanswered_late, owed_at_end}
 use Rattle.spec_duties.specs.declared.answering.CallChange.{CallChange}
 use Rattle.spec_duties.specs.declared.answering.OpenCall.{OpenCall}
-use Rattle.spec_cases.specs.Cases.{Known, Dutiful, judged_rules, known_after, late_at_end, noted_by}
+use Rattle.spec_flights.specs.Flights.{judges}
+use Rattle.spec_cases.specs.Cases.{Known, Dutiful, judged_rules, known_after, late_at_end, noted_by, refused_at, refused_by}
 use Rattle.spec_duties.specs.Credits.{credit_of, earliest_credit, has_credit, spent}
 use Rattle.spec_duties.specs.Deadlines.{is_late}
 use Rattle.spec_duties.specs.Excess.{is_excess}
@@ -29,6 +31,7 @@ use Rattle.spec_duties.specs.End.{any_unsent, either, end_rules, first_waiting, 
 use Rattle.spec_duties.specs.Expire.{expiry_due}
 use Rattle.spec_duties.specs.Owed.{lates_of, lates_of_open, none_late}
 use Rattle.spec_duties.specs.Probe.{probing_due}
+use Rattle.spec_duties.specs.Resent.{judges_repeats}
 use Rattle.spec_duties.specs.Reset.{reset_since}
 use Rattle.spec_duties.specs.Observations.{observe}
 use Rattle.spec_cases.specs.Slack.{AtMost, HasMoreCredits, LessLateIsMoreAccepted, NothingIsJudged, SlackIsHardlyNoted, AreInOrder, credits_left, with_slack}
@@ -56,11 +59,35 @@ use Rattle.spec_duties.specs.declared.views.View.{View}
 pub nothing_judged : (h : Header) (moment : ℕ) (d : Duties) (s : Observation) → h.slack ≡ None → judged_rules h moment d s ≡ []
 nothing_judged h moment d s any = ap (λ o. on o [] (λ slack. duty_rules h slack moment d s)) any
 
-pub dutiful_any : (h : Header) (k : Known) (xs : List (Stamped tcp_shape)) → h.slack ≡ None → Dutiful h k xs
-dutiful_any h k [] any = tt
-dutiful_any h k (x ∷ xs) any = (
-  ap first_broken (nothing_judged h x.moment k.duties (observe h x.moment k.model x.step) any),
-  dutiful_any h (known_after h x.moment k x.step) xs any,
+-- nor does what is kept of data in flight refuse anything before version 6
+not_judging : (h : Header) → says_sender h.version ≡ false → judges h ≡ false
+not_judging h old = ap (λ (b : Bool). b && judges_repeats h.congestion) old
+
+pub refused_before : (h : Header) (moment : ℕ) (k : Known) (step : Step tcp_shape) → says_sender h.version ≡ false → refused_by h moment k step ≡ None
+refused_before h moment k (network.Begin line t call) old = refl
+refused_before h moment k (network.Finish line t answer) old = refl
+refused_before h moment k (network.Effect t answer) old = refl
+refused_before h moment k (network.At host d) old = at d
+  where
+    at : (d : HostStep tcp_shape) → refused_at h moment k host d ≡ None
+    at (network.Makes m) = rw (not_judging h old) refl
+    at (network.Does x) = rw (not_judging h old) refl
+    at (network.Expires line x) = refl
+    at (network.Sends line number wire) = refl
+    at (network.Gets line copied wire) = refl
+    at (network.Hears line wire) = refl
+    at (network.Takes line how) = refl
+    at (network.Drops line) = refl
+    at (network.Answers line) = refl
+
+pub dutiful_any : (h : Header) (k : Known) (xs : List (Stamped tcp_shape)) → h.slack ≡ None → says_sender h.version ≡ false → Dutiful h k xs
+dutiful_any h k [] any old = tt
+dutiful_any h k (x ∷ xs) any old = (
+  record {
+    duties = ap first_broken (nothing_judged h x.moment k.duties (observe h x.moment k.model x.step) any);
+    flights = refused_before h x.moment k x.step old;
+  },
+  dutiful_any h (known_after h x.moment k x.step) xs any old,
 )
 
 pub late_any : (h : Header) (moment : ℕ) (k : Known) → h.slack ≡ None → late_at_end h moment k ≡ None
@@ -415,9 +442,9 @@ less_late less more at = record {
       ap (λ (d : Duties). first_broken (judged_rules (with_slack more h) moment d s)) has.same
       ∙ step_less less more at h moment few many.credits s has.left e;
   end =
-      λ h moment w few many has e.
-      ap (λ (d : Duties). late_at_end (with_slack more h) moment (record { model = w; duties = d })) has.same
-      ∙ end_less less more at h moment (record { model = w; duties = few }) e;
+      λ h moment w fs few many has e.
+      ap (λ (d : Duties). late_at_end (with_slack more h) moment (record { model = w; flights = fs; duties = d })) has.same
+      ∙ end_less less more at h moment (record { model = w; flights = fs; duties = few }) e;
 }
 
 -- ---- what is kept

@@ -28,12 +28,11 @@ use Rattle.spec_tcp.specs.Recovery.{recovery_rules}
 use Rattle.spec_tcp.specs.Machine.{tcp, tcp_shape, aim, gives, act_rules, Calls}
 use Rattle.spec_tcp_laws.specs.Ascending.{rule_number, ascend}
 use Rattle.spec_tcp_laws.proofs.Rules.{both_true, at_most_to}
-use Rattle.spec_tcp_laws.proofs.Ascending.{rules_ascend}
 use Rattle.std.proofs.lemmas.Bool.Decides.{nat_tests}
 use Rattle.spec_duties.specs.declared.answering.CallChange.{CallChange}
 use Rattle.spec_duties.specs.Observations.{observe}
 use Rattle.spec_duties.specs.Watching.{answer_rules, built_by, counts_now, duty_rules, sent_by, touched_rules}
-use Rattle.spec_cases.specs.Cases.{Known, case_rules, watch_rules}
+use Rattle.spec_cases.specs.Cases.{Known, watch_rules}
 use Rattle.spec_duties.specs.declared.observations.Sampling.{Sampling}
 use Rattle.spec_duties.specs.declared.observations.Observation.{Observation}
 use Rattle.spec_duties.specs.declared.observations.TouchedEndpoint.{TouchedEndpoint}
@@ -140,8 +139,3 @@ watch_ascend h moment k step = by h.slack (observe h moment k.model step)
     by : (o : Option ℕ) (s : Observation) → ascend 40 (on o [] (λ slack. duty_rules h slack moment k.duties s)) ≡ true
     by None s = refl
     by (Some slack) s = touched slack (counts_now (built_by k.duties s.built_change)) (sent_by k.duties s.built_change) s.sampling s.call_change s.touched
-
-pub all_ascend : (h : Header) (moment : ℕ) (k : Known) (step : Step tcp_shape) → ascend 6 (case_rules h moment k step) ≡ true
-all_ascend h moment k step =
-    ascend_both 6 (step_rules (tcp h) moment k.model step) (watch_rules h moment k step) (omega arith) (rules_ascend h moment k.model step)
-    (rules_top h moment k.model step) (watch_ascend h moment k step)

@@ -36,9 +36,9 @@ use Rattle.spec_step.specs.Faults.{IfBroken}
 use Rattle.spec_duties.specs.Answering.{Waits, beginning, waits_after}
 use Rattle.spec_duties.specs.declared.answering.CallChange.{CallChange}
 use Rattle.spec_duties.specs.Observations.{observe, observe_turn, unseen, view_in}
-use Rattle.spec_duties.specs.Resent.{judges_repeats}
 use Rattle.spec_duties.specs.Watching.{Duties, duty_rules, duties_after}
-use Rattle.spec_flights.specs.Flights.{Flights, flights_after, judges, refusal}
+use Rattle.duties.proofs.SlackLemmas.{refused_before}
+use Rattle.spec_flights.specs.Flights.{Flights, flights_after, refusal}
 use Rattle.spec_cases.specs.Cases.{Known, Watched, after, asked_after, asked_rules, broken_by, forget, flown, case_rules, judged_rules}
 use Rattle.spec_cases.specs.Cases.{known_after, model_rules, noted_by, refused_at, refused_by, watch_rules, with_refusal, with_waits}
 use Rattle.spec_duties.specs.declared.answering.CallChange.TheVariants as call_change
@@ -279,27 +279,7 @@ nothing_noted None strict moment w d = refl
 nothing_noted (Some slack) true moment w d = refl
 nothing_noted (Some slack) false moment w d = refl
 
--- nothing is refused before version 6, nor is anything kept of data in flight
-not_judging : (h : Header) → says_sender h.version ≡ false → judges h ≡ false
-not_judging h old = ap (λ (b : Bool). b && judges_repeats h.congestion) old
-
-pub refused_before : (h : Header) (moment : ℕ) (k : Known) (step : Step tcp_shape) → says_sender h.version ≡ false → refused_by h moment k step ≡ None
-refused_before h moment k (Begin line t call) old = refl
-refused_before h moment k (Finish line t answer) old = refl
-refused_before h moment k (Effect t answer) old = refl
-refused_before h moment k (At host d) old = at d
-  where
-    at : (d : HostStep tcp_shape) → refused_at h moment k host d ≡ None
-    at (Makes m) = rw (not_judging h old) refl
-    at (Does x) = rw (not_judging h old) refl
-    at (Expires line x) = refl
-    at (Sends line number wire) = refl
-    at (Gets line copied wire) = refl
-    at (Hears line wire) = refl
-    at (Takes line how) = refl
-    at (Drops line) = refl
-    at (Answers line) = refl
-
+-- nothing is kept of data in flight before version 6
 pub flown_before : (h : Header) (w : World tcp_shape) (s : Observation) (fs : Flights) → says_sender h.version ≡ false → flown h w s fs ≡ fs
 flown_before h w s fs old = rw (old) refl
 

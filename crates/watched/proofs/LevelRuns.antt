@@ -1,6 +1,6 @@
 -- Duties at another level of congestion control: if less is judged, no more of their rules are broken, and the same is kept.
 use Rattle.std.proofs.Common.{◌≡◌, ℕ, suc, ◌+◌, ◌≤◌, Bool, true, false, List, [], ◌∷◌, ◌++◌, Option, None, Some, map, refl, ap, sym, subst, ◌∙◌, arith}
-use Rattle.std.specs.Prelude.{◌&&◌, if◌then◌else◌, is_some, nat_le, nat_lt}
+use Rattle.std.specs.Prelude.{◌&&◌, not, if◌then◌else◌, is_some, nat_le, nat_lt}
 use Rattle.std.specs.Option.{option_map}
 use Rattle.std.proofs.lemmas.Bool.Decides.{nat_tests}
 use Rattle.case_forms.specs.Versions.{says_sender}
@@ -29,7 +29,7 @@ use Rattle.spec_tcp_laws.proofs.LevelLemmas.{step_alike}
 use Rattle.duties.proofs.SlackLemmas.{AreFewer, fewer_none}
 use Rattle.spec_duties.specs.Answering.{Waits, any_call, is_unanswered_late, waits_after}
 use Rattle.spec_duties.specs.declared.answering.CallChange.{CallChange}
-use Rattle.spec_cases.specs.Cases.{Dutiful, Known, judged_rules, known_after, known_after_all, late_at_end, noted_by, watch_rules}
+use Rattle.spec_cases.specs.Cases.{Dutiful, Known, flown, judged_rules, known_after, known_after_all, late_at_end, model_rules, noted_by, watch_rules}
 use Rattle.spec_duties.specs.End.{any_unsent, either, first_waiting, is_brought_late, is_send_late, lates_at, lates_from, lates_of_all, lates_of_host, line_of}
 use Rattle.spec_duties.specs.declared.events.Event.{Event}
 use Rattle.spec_duties.specs.declared.events.Event.TheVariants.{Builds, Calls, Drops, Expires, Opens, Processes, Recovers, Sends}
@@ -51,7 +51,9 @@ use Rattle.spec_duties.specs.declared.observations.BuiltChange.{BuiltChange}
 use Rattle.spec_duties.specs.declared.observations.BuiltChange.TheVariants as built_change
 use Rattle.spec_duties.specs.declared.tables.Built.{Built}
 use Rattle.spec_duties.specs.declared.views.View.{View}
-use Rattle.watched.specs.Levels.{CaseJudgedAlike, EndsBelow, known_judged, observed_with, touched_with, view_with}
+use Rattle.spec_flights.specs.Flights.{Flights}
+use Rattle.watched.specs.Levels.{CaseJudgedAlike, EndsBelow, known_judged, observed_with, remaining, touched_with, view_with}
+use Rattle.watched.proofs.LevelFlights.{flown_same, model_alike, refused_less, remaining_both, repeats_less}
 use Rattle.watched.proofs.LevelObservations.{shows_the_same, view_seen}
 use Rattle.watched.proofs.WaitLemmas.{any_same, same_by, waits_alike, waits_same}
 
@@ -198,13 +200,6 @@ duties_same strict slack a b after moment s d =
 
 -- ---- if less is judged, no more rules are broken
 
-repeats_less : (j k : Judged) → extent j ≤ extent k → judges_repeats j ≡ true → judges_repeats k ≡ true
-repeats_less j judged.Full le is = refl
-repeats_less j judged.Recovery le is = refl
-repeats_less judged.Full judged.NoControl le is = absurd (omega (arith, le))
-repeats_less judged.Recovery judged.NoControl le is = absurd (omega (arith, le))
-repeats_less judged.NoControl judged.NoControl le is = is
-
 windows_less : (j k : Judged) → extent j ≤ extent k → judges_windows j ≡ true → judges_windows k ≡ true
 windows_less j judged.Full le is = refl
 windows_less judged.Full judged.Recovery le is = absurd (omega (arith, le))
@@ -242,6 +237,11 @@ beyond_less j k edge (Builds m) v le higher e =
     (nat_lt edge (m.pos + m.len)) (windows_less j k le) (below v.congestion_edge edge (m.pos + m.len) higher) e
 beyond_less j k edge _ v le higher e = refl
 
+-- a rule that only some versions judge
+judged_by : (gate a b : Bool) → (a ≡ false → b ≡ false) → (gate && a) ≡ false → (gate && b) ≡ false
+judged_by true a b less e = less e
+judged_by false a b less e = refl
+
 touched_fewer : (j : Judged) (h : Header) (slack moment : ℕ) (d : Duties) (counts : Bool) (sent : Option Unsent) (s : Sampling) (edge : ℕ)
     (change : CallChange) (o : Option TouchedEndpoint)
     → extent j ≤ extent h.congestion
@@ -262,9 +262,9 @@ touched_fewer j h slack moment d counts sent s edge change (Some t) le higher = 
           (
             λ e. e,
             (
-              resent_less j h.congestion edge t.event t.before _ le,
+              judged_by (not (says_sender h.version)) _ _ (resent_less j h.congestion edge t.event t.before _ le),
               (
-                beyond_less j h.congestion edge t.event t.before le higher,
+                judged_by (not (says_sender h.version)) _ _ (beyond_less j h.congestion edge t.event t.before le higher),
                 (λ e. e, (λ e. e, tt)),
               ),
             ),
@@ -333,14 +333,17 @@ duties_alike j h moment d edge s = by h.slack s.touched
 pub case_alike : (j : Judged) (h : Header) → CaseJudgedAlike j h
 case_alike j h moment k step le is =
     let seen = shows_the_same j h moment k.model step le is in
-    others_both (step_rules (tcp (header_by j h)) moment (world_judged j h k.model) step)
-    (watch_rules (header_by j h) moment (known_judged j h k) step)
-    ∙ ap (λ (xs : List (Rule × Bool)). xs ++ other_rules (watch_rules (header_by j h) moment (known_judged j h k) step))
-    (step_alike (profile_of (header_by j h)) j h moment k.model step)
-    ∙ ap (λ (xs : List (Rule × Bool)). other_rules (step_rules (tcp h) moment k.model step) ++ xs)
+    ap (remaining h.version)
+    (others_both (model_rules (header_by j h) moment (known_judged j h k) step) (watch_rules (header_by j h) moment (known_judged j h k) step))
+    ∙ remaining_both h.version (other_rules (model_rules (header_by j h) moment (known_judged j h k) step))
+    (other_rules (watch_rules (header_by j h) moment (known_judged j h k) step))
+    ∙ ap (λ (xs : List (Rule × Bool)). xs ++ remaining h.version (other_rules (watch_rules (header_by j h) moment (known_judged j h k) step)))
+    (model_alike j h moment k step (step_alike (profile_of (header_by j h)) j h moment k.model step))
+    ∙ ap (λ (xs : List (Rule × Bool)). remaining h.version (other_rules (model_rules h moment k step)) ++ remaining h.version xs)
     (ap (λ (s : Observation). other_rules (judged_rules (header_by j h) moment k.duties s)) seen.1
     ∙ duties_alike j h moment k.duties seen.0 (observe h moment k.model step))
-    ∙ sym (others_both (step_rules (tcp h) moment k.model step) (watch_rules h moment k step))
+    ∙ sym (remaining_both h.version (other_rules (model_rules h moment k step)) (other_rules (watch_rules h moment k step)))
+    ∙ sym (ap (remaining h.version) (others_both (model_rules h moment k step) (watch_rules h moment k step)))
 
 noted_same : (j : Judged) (h : Header) (moment : ℕ) (w : World tcp_shape) (edge : ℕ) (s : Observation) (d : Duties)
     → noted_by (header_by j h) moment (world_judged j h w) (observed_with edge s) d ≡ noted_by h moment w s d
@@ -379,14 +382,19 @@ known_kept j h moment k step le is =
     let world = after_kept j h moment k.model step in
     ap (λ (s : Observation). known (after (tcp (header_by j h)) moment (world_judged j h k.model) step) s) seen.1
     ∙ ap (λ (w : World tcp_shape). known w (observed_with seen.0 (observe h moment k.model step))) world
-    ∙ ap (λ (d : Duties). pair (world_judged j h (after (tcp h) moment k.model step)) d)
-    (noted_same j h moment (after (tcp h) moment k.model step) seen.0 (observe h moment k.model step) k.duties)
+    ∙ ap (λ (fs : Flights). triple fs (noted_by (header_by j h) moment (world_judged j h now) (observed_with seen.0 (observe h moment k.model step)) k.duties))
+    (flown_same j h now seen.0 (observe h moment k.model step) k.flights)
+    ∙ ap (triple (flown h now (observe h moment k.model step) k.flights))
+    (noted_same j h moment now seen.0 (observe h moment k.model step) k.duties)
   where
-    pair : World tcp_shape → Duties → Known
-    pair w d = record { model = w; duties = d }
+    now : World tcp_shape
+    now = after (tcp h) moment k.model step
+
+    triple : Flights → Duties → Known
+    triple fs d = record { model = world_judged j h now; flights = fs; duties = d }
 
     known : World tcp_shape → Observation → Known
-    known w s = pair w (noted_by (header_by j h) moment w s k.duties)
+    known w s = record { model = w; flights = flown (header_by j h) w s k.flights; duties = noted_by (header_by j h) moment w s k.duties }
 
 -- ---- a run, and its end
 
@@ -395,7 +403,7 @@ pub dutiful_by : (j : Judged) (h : Header) (k : Known) (xs : List (Stamped tcp_s
     → Dutiful h k xs → Dutiful (header_by j h) (known_judged j h k) xs
 dutiful_by j h k [] le is may kept = tt
 dutiful_by j h k (x ∷ xs) le is may kept = (
-  watch_passes j h x.moment k x.step le is kept.0,
+  record { duties = watch_passes j h x.moment k x.step le is kept.0.duties; flights = refused_less j h x.moment k x.step le is kept.0.flights },
   subst (λ (n : Known). Dutiful (header_by j h) n xs) (sym (known_kept j h x.moment k x.step le is))
       (dutiful_by j h (known_after h x.moment k x.step) xs le (judged_step h x.moment k.model x.step is may.0) may.1 kept.1),
 )

@@ -4,8 +4,10 @@ pub mod CaseLemmas
 mod EndLemmas
 pub mod ForgetLemmas
 mod PlaceLemmas
+pub mod RefusalLemmas
 pub mod SlackLemmas
 pub mod SlackRuns
 mod WaitLemmas
 pub mod LevelObservations
+mod LevelFlights
 pub mod LevelRuns

@@ -21,6 +21,7 @@ use Rattle.spec_tcp.specs.Makes.{making_rules}
 use Rattle.spec_tcp.specs.Recovery.{recovery_rules}
 use Rattle.spec_tcp.specs.declared.endpoint.Endpoint.{Endpoint}
 use Rattle.spec_tcp_laws.specs.Ascending.{ascend}
+use Rattle.spec_tcp_laws.proofs.Ascending.{rules_ascend}
 use Rattle.spec_tcp_laws.proofs.Rules.{both_true, at_most_to}
 use Rattle.spec_duties.specs.declared.events.Event.TheVariants as events
 use Rattle.spec_duties.specs.declared.events.Event.{Event}
@@ -30,9 +31,9 @@ use Rattle.spec_duties.specs.Views.{view_of}
 use Rattle.spec_duties.specs.declared.views.View.{View}
 use Rattle.spec_flights.specs.Flights.{Flight, broken_at, flight_at, goes_again, judges, may_begin, may_go_again}
 use Rattle.spec_cases.specs.Cases as cases
-use Rattle.spec_cases.specs.Cases.{Known, refused_at, refused_by, with_broken}
+use Rattle.spec_cases.specs.Cases.{Known, case_rules, model_rules, refused_at, refused_by, watch_rules, with_broken}
 use Rattle.watched.specs.Watched.{least_broken, lesser}
-use Rattle.watched.proofs.AscendLemmas.{tops}
+use Rattle.watched.proofs.AscendLemmas.{ascend_both, rules_top, tops, watch_ascend}
 
 -- some rule of a list has this number
 abbrev is_among : Rule → List (Rule × Bool) → Bool
@@ -239,3 +240,17 @@ refused_among h moment k (At host d) = at d
     at (Takes line how) = tt
     at (Drops line) = tt
     at (Answers line) = tt
+
+-- ---- the rules of a case
+
+pub model_ascends : (h : Header) (moment : ℕ) (k : Known) (step : Step tcp_shape) → ascend 6 (model_rules h moment k step) ≡ true
+model_ascends h moment k step =
+    ascend_refused (refused_by h moment k step) 6 (step_rules (tcp h) moment k.model step) (rules_ascend h moment k.model step)
+
+pub model_top : (h : Header) (moment : ℕ) (k : Known) (step : Step tcp_shape) → tops (model_rules h moment k step) ≡ true
+model_top h moment k step = tops_refused (refused_by h moment k step) (step_rules (tcp h) moment k.model step) (rules_top h moment k.model step)
+
+pub all_ascend : (h : Header) (moment : ℕ) (k : Known) (step : Step tcp_shape) → ascend 6 (case_rules h moment k step) ≡ true
+all_ascend h moment k step =
+    ascend_both 6 (model_rules h moment k step) (watch_rules h moment k step) (omega arith) (model_ascends h moment k step)
+    (model_top h moment k step) (watch_ascend h moment k step)

@@ -1,8 +1,12 @@
 -- What a step shows, and which rules it breaks, at another level of congestion control.
-use Rattle.std.specs.Prelude.{◌≡◌, ◌≤◌, ℕ, Option, None, Some}
+use Rattle.std.specs.Prelude.{◌≡◌, ◌≤◌, ℕ, Bool, true, false, ◌&&◌, if◌then◌else◌, List, [], ◌∷◌, Option, None, Some}
 use Rattle.std.specs.Option.{option_map}
+use Rattle.case_forms.specs.Versions.{says_sender}
 use Rattle.case_forms.specs.declared.trace.Header.{Header}
 use Rattle.case_forms.specs.declared.version.Judged.{Judged}
+use Rattle.case_forms.specs.declared.version.Version.{Version}
+use Rattle.verdict.specs.declared.rule.Rule.{Rule}
+use Rattle.verdict.specs.declared.rule.Rule.TheVariants as rules
 use Rattle.spec_network.specs.Hosts.{Step, World}
 use Rattle.spec_tcp.specs.Machine.{tcp_shape}
 use Rattle.spec_tcp_laws.specs.Judging.{IsJudged, extent, header_by, world_judged}
@@ -36,12 +40,22 @@ ShowsHigher s t = (edge : ℕ) × (t ≡ observed_with edge s) × EndsBelow edge
 abbrev pub known_judged : Judged → Header → Known → Known
 known_judged j h k = record k { model = world_judged j h k.model }
 
+abbrev pub is_old_data : Rule → Bool
+is_old_data rules.OldData = true
+is_old_data rule = false
+
+-- from version 6 on, the level also decides whether outstanding data may go again: all rules but that
+abbrev pub remaining : Version → List (Rule × Bool) → List (Rule × Bool)
+remaining v [] = []
+remaining v (rule ∷ rules) =
+    if says_sender v && is_old_data rule.0 then remaining v rules else rule ∷ remaining v rules
+
 -- if less is judged, a step of a case breaks the same of all rules that aren't the level's own
 abbrev pub CaseJudgedAlike : Judged → Header → Type 0
 CaseJudgedAlike j h = (moment : ℕ) (k : Known) (step : Step tcp_shape)
     → extent j ≤ extent h.congestion → IsJudged h k.model
-    → other_rules (case_rules (header_by j h) moment (known_judged j h k) step)
-    ≡ other_rules (case_rules h moment k step)
+    → remaining h.version (other_rules (case_rules (header_by j h) moment (known_judged j h k) step))
+    ≡ remaining h.version (other_rules (case_rules h moment k step))
 
 -- if less is judged, a step shows the same, except that the congestion edge may be higher
 abbrev pub LessJudgedShowsTheSame : Judged → Header → Type 0

@@ -36,7 +36,7 @@ pub fn less_judged_shows_the_same()
 {}
 
 /// If less of congestion control is judged, a step breaks the same of all rules except `congestion`, `growth`,
-/// `recovery`, `resent` and `resent-beyond`.
+/// `recovery`, `resent` and `resent-beyond`, and from version 6 on `old-data`.
 pub fn case_judged_alike()
     ensures { (j : Judged) → (h : Header) → CaseJudgedAlike j h }
 {}

@@ -1,0 +1,339 @@
+-- Data in flight at another level of congestion control: the same is kept, and if less is judged, no more is refused.
+use Rattle.std.proofs.Common.{◌≡◌, ℕ, ◌≤◌, Bool, true, false, List, [], ◌∷◌, ◌++◌, Option, None, Some, map, refl, ap, sym, ◌∙◌, arith}
+use Rattle.std.specs.Prelude.{◌&&◌, not, if◌then◌else◌, nat_eq}
+use Rattle.std.specs.FinSet.{difference, from_list, items, union}
+use Rattle.std.specs.Option.{option_map}
+use Rattle.indexmap.specs.IndexMap.{insert_entry}
+use Rattle.case_forms.specs.Versions.{says_sender}
+use Rattle.case_forms.specs.declared.calls.Host.{Host}
+use Rattle.case_forms.specs.declared.timer.Timer.TheVariants.{Giveup, Msl2, Persist, Pto, Rto}
+use Rattle.case_forms.specs.declared.trace.Header.{Header}
+use Rattle.case_forms.specs.declared.version.Judged.{Judged}
+use Rattle.case_forms.specs.declared.version.Judged.TheVariants as judged
+use Rattle.case_forms.specs.declared.version.Version.{Version}
+use Rattle.verdict.specs.Rules.{rule_number}
+use Rattle.verdict.specs.declared.rule.Rule.{Rule}
+use Rattle.verdict.specs.declared.rule.Rule.TheVariants as rules
+use Rattle.streams.specs.Ranges.{span}
+use Rattle.spec_network.specs.HostRules.{step_rules}
+use Rattle.spec_network.specs.Hosts.{HostStep, Step, World, Does, Expires as TimerLine, Makes, Sends as SendLine, Gets, Hears, Takes as TakeStep, Drops as DropStep}
+use Rattle.spec_network.specs.Hosts.{Answers, Begin, Finish, Effect, At}
+use Rattle.spec_network.specs.Tables.{on, pick, with_host}
+use Rattle.spec_tcp.specs.Machine.{tcp, tcp_shape}
+use Rattle.spec_tcp.specs.Signals.{profile_of}
+use Rattle.spec_tcp_laws.specs.Judging.{IsJudged, extent, header_by, world_judged}
+use Rattle.spec_tcp_laws.specs.Levels.{is_of_level, other_rules}
+use Rattle.spec_duties.specs.Observations.{observe, view_in}
+use Rattle.spec_duties.specs.Resent.{judges_repeats}
+use Rattle.spec_duties.specs.declared.events.Event.{Event}
+use Rattle.spec_duties.specs.declared.events.Event.TheVariants.{Builds, Calls, Drops, Expires, Opens, Processes, Recovers, Sends}
+use Rattle.spec_duties.specs.declared.observations.Observation.{Observation}
+use Rattle.spec_duties.specs.declared.observations.SynChange.{SynChange}
+use Rattle.spec_duties.specs.declared.observations.SynChange.TheVariants as syn
+use Rattle.spec_duties.specs.declared.observations.TouchedEndpoint.{TouchedEndpoint}
+use Rattle.spec_duties.specs.declared.views.View.{View}
+use Rattle.spec_flights.specs.Flights.{Flight, Flights, broken_at, flight_after, flight_at, flights_touched, may_begin, goes_again, may_go_again, refusal}
+use Rattle.spec_flights.specs.Flights.{repairs_plainly}
+use Rattle.spec_flights.specs.Marks.{marked_by, marked_by_event, taken_by}
+use Rattle.spec_flights.specs.Recovering.{recovery_after}
+use Rattle.spec_flights.specs.Sides.{sides_after}
+use Rattle.spec_flights.specs.declared.recovery.Recovery.{Recovery}
+use Rattle.spec_flights.specs.declared.sides.Sides.{Sides}
+use Rattle.spec_flights.specs.declared.stretch.Stretch.{Stretch}
+use Rattle.spec_cases.specs.Cases.{Known, flown, model_rules, refused_at, refused_by, with_broken, with_refusal}
+use Rattle.watched.specs.Levels.{is_old_data, known_judged, observed_with, remaining, touched_with, view_with}
+use Rattle.watched.proofs.LevelObservations.{shows_the_same, view_seen}
+
+-- ---- what is kept doesn't depend on the edge
+
+recovery_same : (event : Event) (b : ℕ) (after : View) (r : Recovery) → recovery_after event (view_with b after) r ≡ recovery_after event after r
+recovery_same Opens b after r = refl
+recovery_same (Calls abort) b after r = refl
+recovery_same (Processes length rst) b after r = refl
+recovery_same (Drops asks unlimited) b after r = refl
+recovery_same (Builds m) b after r = refl
+recovery_same (Sends s) b after r = refl
+recovery_same (Expires Rto) b after r = refl
+recovery_same (Expires Persist) b after r = refl
+recovery_same (Expires Msl2) b after r = refl
+recovery_same (Expires Giveup) b after r = refl
+recovery_same (Expires Pto) b after r = refl
+recovery_same Recovers b after r = refl
+
+event_same : (event : Event) (a b : ℕ) (before after : View) (repairs : Bool)
+    → marked_by_event event (view_with a before) (view_with b after) repairs ≡ marked_by_event event before after repairs
+event_same Opens a b before after repairs = refl
+event_same (Calls abort) a b before after repairs = refl
+event_same (Processes length rst) a b before after repairs = refl
+event_same (Drops asks unlimited) a b before after repairs = refl
+event_same (Builds m) a b before after repairs = refl
+event_same (Sends s) a b before after repairs = refl
+event_same (Expires Rto) a b before after repairs = refl
+event_same (Expires Persist) a b before after repairs = refl
+event_same (Expires Msl2) a b before after repairs = refl
+event_same (Expires Giveup) a b before after repairs = refl
+event_same (Expires Pto) a b before after repairs = refl
+event_same Recovers a b before after repairs = refl
+
+marked_same : (change : SynChange) (event : Event) (a b : ℕ) (before after : View) (repairs : Bool)
+    → marked_by change event (view_with a before) (view_with b after) repairs ≡ marked_by change event before after repairs
+marked_same syn.Nothing event a b before after repairs = event_same event a b before after repairs
+marked_same (syn.Sends permits) event a b before after repairs = event_same event a b before after repairs
+marked_same (syn.Takes permits true) event a b before after repairs = refl
+marked_same (syn.Takes permits false) event a b before after repairs = event_same event a b before after repairs
+marked_same syn.ComesAgain event a b before after repairs = refl
+
+taken_same : (event : Event) (a : ℕ) (before : View) → taken_by event (view_with a before) ≡ taken_by event before
+taken_same Opens a before = refl
+taken_same (Calls abort) a before = refl
+taken_same (Processes length rst) a before = refl
+taken_same (Drops asks unlimited) a before = refl
+taken_same (Builds m) a before = refl
+taken_same (Sends s) a before = refl
+taken_same (Expires timer) a before = refl
+taken_same Recovers a before = refl
+
+flight_same : (change : SynChange) (event : Event) (a b : ℕ) (before after : View) (f : Flight)
+    → flight_after change event (view_with a before) (view_with b after) f ≡ flight_after change event before after f
+flight_same change event a b before after f =
+    ap (λ (r : Recovery). with r (taken_by event (view_with a before)) (marked_by change event (view_with a before) (view_with b after) (repairs_plainly after sides r)))
+    (recovery_same event b after f.recovery)
+    ∙ ap (λ (t : Stretch). with now t (marked_by change event (view_with a before) (view_with b after) repairs)) (taken_same event a before)
+    ∙ ap (with now (taken_by event before)) (marked_same change event a b before after repairs)
+  where
+    marks : (taken marked : Stretch) → List ℕ
+    marks taken marked =
+        items
+        (difference (union (difference (from_list f.marks) (span taken.from taken.upto)) (span marked.from marked.upto)) (span 0 after.snd_una))
+
+    sides : Sides
+    sides = sides_after change f.sides
+
+    now : Recovery
+    now = recovery_after event after f.recovery
+
+    repairs : Bool
+    repairs = repairs_plainly after sides now
+
+    with : Recovery → (taken marked : Stretch) → Flight
+    with r taken marked = record { sides = sides; recovery = r; marks = marks taken marked }
+
+broken_same : (event : Event) (a : ℕ) (v : View) (f : Flight) → broken_at event (view_with a v) f ≡ broken_at event v f
+broken_same Opens a v f = refl
+broken_same (Calls abort) a v f = refl
+broken_same (Processes length rst) a v f = refl
+broken_same (Drops asks unlimited) a v f = refl
+broken_same (Builds m) a v f = refl
+broken_same (Sends s) a v f = refl
+broken_same (Expires timer) a v f = refl
+broken_same Recovers a v f = refl
+
+pub flown_same : (j : Judged) (h : Header) (w : World tcp_shape) (edge : ℕ) (s : Observation) (fs : Flights)
+    → flown (header_by j h) (world_judged j h w) (observed_with edge s) fs ≡ flown h w s fs
+flown_same j h w edge s fs =
+    let seen = view_seen (profile_of (header_by j h)) w edge s.touched in
+    ap (λ (v : View). with (says_sender h.version) (option_map (touched_with edge) s.touched) v) seen.1
+    ∙ by (says_sender h.version) s.touched seen.0 (view_in w s.touched)
+  where
+    with : Bool → Option TouchedEndpoint → View → Flights
+    with strict o v = if strict then on o fs (flights_touched v s.syn_change fs) else fs
+
+    by : (strict : Bool) (o : Option TouchedEndpoint) (b : ℕ) (v : View)
+        → with strict (option_map (touched_with edge) o) (view_with b v) ≡ with strict o v
+    by false o b v = refl
+    by true None b v = refl
+    by true (Some t) b v =
+        ap (λ (f : Flight). with_host fs t.host (insert_entry nat_eq (pick fs t.host) t.place f))
+        (flight_same s.syn_change t.event edge b t.before v (flight_at fs t.host t.place))
+
+-- ---- if less is judged, no more is refused
+
+pub repeats_less : (j k : Judged) → extent j ≤ extent k → judges_repeats j ≡ true → judges_repeats k ≡ true
+repeats_less j judged.Full le is = refl
+repeats_less j judged.Recovery le is = refl
+repeats_less judged.Full judged.NoControl le is = absurd (omega (arith, le))
+repeats_less judged.Recovery judged.NoControl le is = absurd (omega (arith, le))
+repeats_less judged.NoControl judged.NoControl le is = is
+
+refusal_less : (j : Judged) (h : Header) (fs : Flights) (edge : ℕ) (s : Observation) → extent j ≤ extent h.congestion
+    → refusal h fs s ≡ None → refusal (header_by j h) fs (observed_with edge s) ≡ None
+refusal_less j h fs edge s le none =
+    by (says_sender h.version) (judges_repeats j) (judges_repeats h.congestion) s.touched (repeats_less j h.congestion le) none
+  where
+    at : TouchedEndpoint → Option Rule
+    at t = broken_at t.event t.before (flight_at fs t.host t.place)
+
+    by : (strict less more : Bool) (o : Option TouchedEndpoint) → (less ≡ true → more ≡ true)
+        → (if strict && more then on o None at else None) ≡ None
+        → (if strict && less then on (option_map (touched_with edge) o) None at else None) ≡ None
+    by false less more o le none = refl
+    by true false more o le none = refl
+    by true true false o le none = let is : false ≡ true = le refl in absurd cc
+    by true true true None le none = refl
+    by true true true (Some t) le none = broken_same t.event edge t.before (flight_at fs t.host t.place) ∙ none
+
+pub refused_less : (j : Judged) (h : Header) (moment : ℕ) (k : Known) (step : Step tcp_shape) → extent j ≤ extent h.congestion → IsJudged h k.model
+    → refused_by h moment k step ≡ None → refused_by (header_by j h) moment (known_judged j h k) step ≡ None
+refused_less j h moment k (Begin line t call) le is none = refl
+refused_less j h moment k (Finish line t answer) le is none = refl
+refused_less j h moment k (Effect t answer) le is none = refl
+refused_less j h moment k (At host d) le is none = at d none
+  where
+    less : (d : HostStep tcp_shape) → refusal h k.flights (observe h moment k.model (At host d)) ≡ None
+        → refusal (header_by j h) k.flights (observe (header_by j h) moment (world_judged j h k.model) (At host d)) ≡ None
+    less d none =
+        let seen = shows_the_same j h moment k.model (At host d) le is in
+        ap (λ (s : Observation). refusal (header_by j h) k.flights s) seen.1
+        ∙ refusal_less j h k.flights seen.0 (observe h moment k.model (At host d)) le none
+
+    at : (d : HostStep tcp_shape) → refused_at h moment k host d ≡ None → refused_at (header_by j h) moment (known_judged j h k) host d ≡ None
+    at (Makes m) none = less (Makes m) none
+    at (Does x) none = less (Does x) none
+    at (TimerLine line x) none = refl
+    at (SendLine line number wire) none = refl
+    at (Gets line copied wire) none = refl
+    at (Hears line wire) none = refl
+    at (TakeStep line how) none = refl
+    at (DropStep line) none = refl
+    at (Answers line) none = refl
+
+-- ---- a refusal changes only rules that the level decides
+
+-- a rule that may be broken so
+abbrev IsLevels : Version → Option Rule → Type 0
+IsLevels v None = Unit {0}
+IsLevels v (Some rules.OldData) = says_sender v ≡ true
+IsLevels v (Some rules.Recovery) = Unit {0}
+IsLevels v (Some rule) = ⊥
+
+old_is : (r : Rule) → nat_eq 20 (rule_number r) ≡ true → r ≡ rules.OldData
+old_is rules.OldData is = refl
+old_is _ is = absurd cc
+
+recovery_is : (r : Rule) → nat_eq 37 (rule_number r) ≡ true → r ≡ rules.Recovery
+recovery_is rules.Recovery is = refl
+recovery_is _ is = absurd cc
+
+-- one rule more
+remaining_more : (v : Version) (e : Rule × Bool) (xs ys : List (Rule × Bool)) → remaining v (other_rules xs) ≡ remaining v (other_rules ys)
+    → remaining v (other_rules (e ∷ xs)) ≡ remaining v (other_rules (e ∷ ys))
+remaining_more v e xs ys same = by (is_of_level e.0)
+  where
+    inner : (old : Bool)
+        → (if old then remaining v (other_rules xs) else e ∷ remaining v (other_rules xs))
+        ≡ (if old then remaining v (other_rules ys) else e ∷ remaining v (other_rules ys))
+    inner true = same
+    inner false = ap (λ (zs : List (Rule × Bool)). e ∷ zs) same
+
+    by : (own : Bool)
+        → remaining v (if own then other_rules xs else e ∷ other_rules xs) ≡ remaining v (if own then other_rules ys else e ∷ other_rules ys)
+    by true = same
+    by false = inner (says_sender v && is_old_data e.0)
+
+-- `old-data` is left out from version 6 on
+old_left : (v : Version) (b : Bool) (xs : List (Rule × Bool)) → says_sender v ≡ true
+    → remaining v (other_rules ((rules.OldData, b) ∷ xs)) ≡ remaining v (other_rules xs)
+old_left v b xs is =
+    ap (λ (strict : Bool). if strict && true then remaining v (other_rules xs) else (rules.OldData, b) ∷ remaining v (other_rules xs)) is
+
+old_out : (v : Version) (rs : List (Rule × Bool)) → says_sender v ≡ true
+    → remaining v (other_rules (map (with_broken rules.OldData) rs)) ≡ remaining v (other_rules rs)
+old_out v [] is = refl
+old_out v ((r, b) ∷ rs) is = by (nat_eq 20 (rule_number r)) refl (old_out v rs is)
+  where
+    by : (same : Bool) → nat_eq 20 (rule_number r) ≡ same
+        → remaining v (other_rules (map (with_broken rules.OldData) rs)) ≡ remaining v (other_rules rs)
+        → remaining v (other_rules ((if same then (rules.OldData, true) else (r, b)) ∷ map (with_broken rules.OldData) rs))
+        ≡ remaining v (other_rules ((r, b) ∷ rs))
+    by true at rest =
+        old_left v true (map (with_broken rules.OldData) rs) is ∙ rest
+        ∙ sym (ap (λ (x : Rule). remaining v (other_rules ((x, b) ∷ rs))) (old_is r at) ∙ old_left v b rs is)
+    by false at rest = remaining_more v (r, b) (map (with_broken rules.OldData) rs) rs rest
+
+recovery_out : (v : Version) (rs : List (Rule × Bool))
+    → remaining v (other_rules (map (with_broken rules.Recovery) rs)) ≡ remaining v (other_rules rs)
+recovery_out v [] = refl
+recovery_out v ((r, b) ∷ rs) = by (nat_eq 37 (rule_number r)) refl (recovery_out v rs)
+  where
+    by : (same : Bool) → nat_eq 37 (rule_number r) ≡ same
+        → remaining v (other_rules (map (with_broken rules.Recovery) rs)) ≡ remaining v (other_rules rs)
+        → remaining v (other_rules ((if same then (rules.Recovery, true) else (r, b)) ∷ map (with_broken rules.Recovery) rs))
+        ≡ remaining v (other_rules ((r, b) ∷ rs))
+    by true at rest = rest ∙ sym (ap (λ (x : Rule). remaining v (other_rules ((x, b) ∷ rs))) (recovery_is r at))
+    by false at rest = remaining_more v (r, b) (map (with_broken rules.Recovery) rs) rs rest
+
+refused_out : (v : Version) (o : Option Rule) (rs : List (Rule × Bool)) → IsLevels v o
+    → remaining v (other_rules (with_refusal o rs)) ≡ remaining v (other_rules rs)
+refused_out v None rs is = refl
+refused_out v (Some rules.OldData) rs is = old_out v rs is
+refused_out v (Some rules.Recovery) rs is = recovery_out v rs
+refused_out v (Some _) rs is = absurd is
+
+broken_levels : (v : Version) (event : Event) (seen : View) (f : Flight) → says_sender v ≡ true → IsLevels v (broken_at event seen f)
+broken_levels v (Builds m) seen f is = by (goes_again seen m && not (may_go_again seen m f))
+  where
+    by : (b : Bool) → IsLevels v (if b then Some rules.OldData else None)
+    by true = is
+    by false = tt
+broken_levels v Recovers seen f is = by (may_begin seen f)
+  where
+    by : (b : Bool) → IsLevels v (if b then None else Some rules.Recovery)
+    by true = tt
+    by false = tt
+broken_levels v Opens seen f is = tt
+broken_levels v (Calls abort) seen f is = tt
+broken_levels v (Processes length rst) seen f is = tt
+broken_levels v (Drops asks unlimited) seen f is = tt
+broken_levels v (Sends s) seen f is = tt
+broken_levels v (Expires timer) seen f is = tt
+
+refusal_levels : (h : Header) (fs : Flights) (s : Observation) → IsLevels h.version (refusal h fs s)
+refusal_levels h fs s = by (says_sender h.version) (judges_repeats h.congestion) refl s.touched
+  where
+    at : TouchedEndpoint → Option Rule
+    at t = broken_at t.event t.before (flight_at fs t.host t.place)
+
+    by : (strict more : Bool) → says_sender h.version ≡ strict → (o : Option TouchedEndpoint)
+        → IsLevels h.version (if strict && more then on o None at else None)
+    by false more is o = tt
+    by true false is o = tt
+    by true true is None = tt
+    by true true is (Some t) = broken_levels h.version t.event t.before (flight_at fs t.host t.place) is
+
+refused_levels : (h : Header) (moment : ℕ) (k : Known) (step : Step tcp_shape) → IsLevels h.version (refused_by h moment k step)
+refused_levels h moment k (Begin line t call) = tt
+refused_levels h moment k (Finish line t answer) = tt
+refused_levels h moment k (Effect t answer) = tt
+refused_levels h moment k (At host d) = at d
+  where
+    at : (d : HostStep tcp_shape) → IsLevels h.version (refused_at h moment k host d)
+    at (Makes m) = refusal_levels h k.flights (observe h moment k.model (At host (Makes m)))
+    at (Does x) = refusal_levels h k.flights (observe h moment k.model (At host (Does x)))
+    at (TimerLine line x) = tt
+    at (SendLine line number wire) = tt
+    at (Gets line copied wire) = tt
+    at (Hears line wire) = tt
+    at (TakeStep line how) = tt
+    at (DropStep line) = tt
+    at (Answers line) = tt
+
+-- so at another level the other rules of the model are the same
+pub model_alike : (j : Judged) (h : Header) (moment : ℕ) (k : Known) (step : Step tcp_shape)
+    → other_rules (step_rules (tcp (header_by j h)) moment (world_judged j h k.model) step) ≡ other_rules (step_rules (tcp h) moment k.model step)
+    → remaining h.version (other_rules (model_rules (header_by j h) moment (known_judged j h k) step))
+    ≡ remaining h.version (other_rules (model_rules h moment k step))
+model_alike j h moment k step same =
+    refused_out h.version (refused_by (header_by j h) moment (known_judged j h k) step)
+    (step_rules (tcp (header_by j h)) moment (world_judged j h k.model) step) (refused_levels (header_by j h) moment (known_judged j h k) step)
+    ∙ ap (remaining h.version) same
+    ∙ sym (refused_out h.version (refused_by h moment k step) (step_rules (tcp h) moment k.model step) (refused_levels h moment k step))
+
+pub remaining_both : (v : Version) (xs ys : List (Rule × Bool)) → remaining v (xs ++ ys) ≡ remaining v xs ++ remaining v ys
+remaining_both v [] ys = refl
+remaining_both v (r ∷ xs) ys = by (says_sender v && is_old_data r.0) (remaining_both v xs ys)
+  where
+    by : (old : Bool) → remaining v (xs ++ ys) ≡ remaining v xs ++ remaining v ys
+        → (if old then remaining v (xs ++ ys) else r ∷ remaining v (xs ++ ys))
+        ≡ (if old then remaining v xs else r ∷ remaining v xs) ++ remaining v ys
+    by true rest = rest
+    by false rest = ap (λ (zs : List (Rule × Bool)). r ∷ zs) rest
