@@ -5,15 +5,17 @@ ghost use Rattle.spec_network.specs.HostRules.{just};
 ghost use Rattle.spec_tcp.specs.Bounds.{IsSmallEmission};
 ghost use Rattle.spec_tcp.specs.Heard.{heard, most_bytes, told_flags};
 ghost use Rattle.spec_tcp.specs.Same.{same_bytes};
-ghost use Rattle.spec_tcp.specs.Wire.{same_flags, header_matches, shift_matches, matches_sent, sent, in_rules};
-ghost use Rattle.std.specs.Prelude.{◌≡◌, ◌≤◌, IfOk, ◌+◌, length, nat_lt, not, take};
+ghost use Rattle.spec_tcp.specs.Wire.{acknowledges, same_flags, header_matches, shift_matches, matches_sent};
+ghost use Rattle.spec_tcp.specs.Wire.{is_before_text, sent, in_rules};
+ghost use Rattle.std.specs.Prelude.{◌≡◌, ◌≤◌, IfOk, ◌+◌, ◌-◌, if◌then◌else◌, length, nat_lt, not, take};
 ghost use Rattle.std.specs.Result.{result_err};
 ghost use Rattle.verdict.specs.Rules.{first_broken};
 ghost use Rattle.verdict.specs.declared.rule.Rule.TheVariants.{NoEmission};
 
 use crate::same::{same_bool, same_word};
-use case_forms::{Flags, Header, Host, Wire};
+use case_forms::{Flags, Header, Host, Version, Wire};
 use segment::{Bytes, Flag, OutOfMemory, Segment};
+use seqno::{Word, number};
 use spec_tcp::{Emission, EndpointId};
 use std::alloc::Global;
 use verdict::Rule;
@@ -27,18 +29,35 @@ const FAR_ID: EndpointId = EndpointId {
 /// No segment carries more bytes than this.
 const MOST_BYTES: usize = 65_535;
 
-// Whether the segment's fields are those of the built one: the acknowledgment number if it has one, the window of all
+// Whether the segment's fields are those of the built one: an acknowledgment number if it has one, the window of all
 // except a reset in answer to a segment.
-fn header_matches(segment: &Segment, m: &Emission) -> bool
-    ensures { result ≡ header_matches segment.now m.now }
+fn header_matches(version: Version, segment: &Segment, m: &Emission) -> bool
+    ensures { result ≡ header_matches version segment.now m.now }
 {
     segment.src == m.lport
         && segment.dst == m.rport
         && same_word(segment.seq, m.seq)
-        && (!m.flags.ack || same_word(segment.ack, m.ack_seq))
+        && (!m.flags.ack || acknowledges(version, segment.ack, m))
         && same_flags(segment, m.flags)
         && (m.is_reset_reply || segment.window == m.window)
         && same_bytes(segment.payload.as_slice(), m.payload.as_slice())
+}
+
+// Whether the acknowledgment number is that of the built segment, or from version 6 on that from before the text which
+// was taken at the moment of building (RFC 9293, 3.10.7.4).
+fn acknowledges(version: Version, ack: Word, m: &Emission) -> bool
+    ensures { result ≡ acknowledges version ack m.now }
+{
+    same_word(ack, m.ack_seq)
+        || version.says_sender() && 0 < m.raised && same_word(number(ack, m.raised), m.ack_seq)
+}
+
+/// Whether the line of a built segment shows the acknowledgment number from before the text which was taken at the moment
+/// of building.
+pub fn is_before_text(wire: &Wire, m: &Emission) -> bool
+    ensures { result ≡ is_before_text wire.now m.now }
+{
+    0 < m.raised && !same_word(wire.seg.ack, m.ack_seq)
 }
 
 #[tactic(auto, using(crate::proofs::Bytes::same_bytes_is))]
@@ -73,19 +92,32 @@ fn shift_matches(segment: &Segment, m: &Emission) -> bool
 pub fn matches_sent(header: &Header, wire: &Wire, m: &Emission) -> bool
     ensures { result ≡ matches_sent header.now wire.now m.now }
 {
-    header_matches(&wire.seg, m)
+    header_matches(header.version, &wire.seg, m)
         && (!(header.version.scales() && m.flags.syn) || shift_matches(&wire.seg, m))
 }
 
-/// The built segment after it was sent, at a moment in microseconds: with its bytes, and the MSS and the shift in its
-/// options. The wire has the payload of the built segment: its parts are moved, and nothing is copied.
+/// The built segment after it was sent, at a moment in microseconds: with its bytes, the acknowledgment that they show,
+/// and the MSS and the shift in its options. The wire has the payload of the built segment: its parts are moved, and nothing is copied.
 pub fn sent(moment: u64, wire: Wire, m: &Emission) -> Emission
     requires { wire.seg.payload ≡ m.now.payload }
     ensures sent { result ≡ sent moment wire m.now }
     ensures small { IsSmallEmission m.now → IsSmallEmission result }
 {
+    let shown = shown_ack(&wire, m);
     let Wire { bytes, seg } = wire;
-    with_bytes(m, seg.payload, bytes, (seg.mss, seg.scale), moment)
+    with_bytes(m, shown, seg.payload, bytes, (seg.mss, seg.scale), moment)
+}
+
+// The acknowledgment that the line shows: its position, and its number. Nothing else may be shown then.
+fn shown_ack(wire: &Wire, m: &Emission) -> (u64, Word, u64)
+    ensures position { result.0 ≡ (if is_before_text wire.now m.now then m.now.ack - m.now.raised else m.now.ack) }
+    ensures number { result.1 ≡ (if is_before_text wire.now m.now then wire.now.seg.ack else m.now.ack_seq) }
+    ensures raised { result.2 ≡ 0 }
+{
+    if is_before_text(wire, m) {
+        return (m.ack.saturating_sub(m.raised), wire.seg.ack, 0);
+    }
+    (m.ack, m.ack_seq, 0)
 }
 
 /// A copy of a segment, as it arrives on a wire that has its bytes: they are moved, and so is the payload if the
@@ -96,7 +128,9 @@ pub fn copy(wire: Wire, m: &Emission) -> Result<Emission, OutOfMemory>
 {
     let Wire { bytes, seg } = wire;
     let payload = same_or_copy(seg.payload, &m.payload)?;
-    Ok(with_bytes(m, payload, bytes, (m.mss, m.scale), m.moment))
+    let shown = (m.ack, m.ack_seq, m.raised);
+    let told = (m.mss, m.scale);
+    Ok(with_bytes(m, shown, payload, bytes, told, m.moment))
 }
 
 // These bytes if they are the required ones, else a copy of those.
@@ -110,17 +144,21 @@ fn same_or_copy(bytes: Bytes, wanted: &Bytes) -> Result<Bytes, OutOfMemory>
     }
 }
 
-// A segment with this payload, on the wire at a moment in microseconds: with its bytes, and the MSS and the shift in
-// its options.
+// A segment with this payload, on the wire at a moment in microseconds: with the acknowledgment that the wire shows, its
+// bytes, and the MSS and the shift in its options.
 #[inline(always)]
 fn with_bytes(
     m: &Emission,
+    shown: (u64, Word, u64),
     payload: Bytes,
     bytes: Bytes,
     told: (Option<u16>, Option<u8>),
     moment: u64,
 ) -> Emission
     ensures { result ≡ record m.now {
+      ack = shown.0;
+      ack_seq = shown.1;
+      raised = shown.2;
       payload = payload;
       bytes = bytes;
       mss = told.0;
@@ -134,9 +172,10 @@ fn with_bytes(
         lport: m.lport,
         rport: m.rport,
         pos: m.pos,
-        ack: m.ack,
+        ack: shown.0,
         seq: m.seq,
-        ack_seq: m.ack_seq,
+        ack_seq: shown.1,
+        raised: shown.2,
         flags: m.flags,
         window: m.window,
         payload,
@@ -178,6 +217,7 @@ pub fn heard(alloc: Global, moment: u64, wire: &Wire) -> Result<Emission, OutOfM
         ack: 0,
         seq: wire.seg.seq,
         ack_seq: wire.seg.ack,
+        raised: 0,
         flags: told_flags(&wire.seg),
         window: wire.seg.window,
         payload: Bytes::from_slice(alloc, payload)?,

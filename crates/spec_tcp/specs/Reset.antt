@@ -38,6 +38,7 @@ reset_of m = record {
   ack = 0;
   seq = if m.flags.ack then m.ack_seq else word_zero;
   ack_seq = if m.flags.ack then word_zero else number_of m.seq (segment_length m);
+  raised = 0;
   flags = record { ack = not m.flags.ack; rst = true; syn = false; fin = false };
   window = 0;
   payload = [];

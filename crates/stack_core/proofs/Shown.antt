@@ -4,6 +4,7 @@ use Rattle.std.specs.Prelude.{◌||◌, ◌&&◌, ◌==◌, not, min, if◌then�
 use Rattle.std.specs.Option.{option_map_or}
 use Rattle.case_forms.specs.Versions.{scales}
 use Rattle.case_forms.specs.declared.trace.Header.{Header}
+use Rattle.case_forms.specs.declared.version.Version.{Version}
 use Rattle.case_forms.specs.declared.steps.Flags.{Flags}
 use Rattle.segment.specs.declared.fields.Segment.{Segment}
 use Rattle.segment.specs.Encoding.{as_written}
@@ -35,8 +36,8 @@ bits false false true false s is = rw is refl
 bits false false false true s is = rw is refl
 bits false false false false s is = rw is refl
 
-pub shown : (m : Emission) (mss : Option ℕ) → header_matches (as_written (segment_of m mss)) m ≡ true
-shown m mss =
+pub shown : (v : Version) (m : Emission) (mss : Option ℕ) → header_matches v (as_written (segment_of m mss)) m ≡ true
+shown v m mss =
     rw (
       number_same m.lport,
       number_same m.rport,
@@ -58,5 +59,5 @@ shift_shown true None = refl
 shift_shown true (Some n) = number_same (min n 14)
 
 pub all_shown : (h : Header) (s : Segment) (m : Emission) (mss : Option ℕ) → s ≡ as_written (segment_of m mss)
-    → (header_matches s m && (not (scales h.version && m.flags.syn) || shift_matches s m)) ≡ true
-all_shown h s m mss is = rw (is, shown m mss, shift_shown m.flags.syn m.shift) (or_true (not (scales h.version && m.flags.syn)))
+    → (header_matches h.version s m && (not (scales h.version && m.flags.syn) || shift_matches s m)) ≡ true
+all_shown h s m mss is = rw (is, shown h.version m mss, shift_shown m.flags.syn m.shift) (or_true (not (scales h.version && m.flags.syn)))

@@ -208,9 +208,11 @@ fn judge_line(
     let Some(taken) = line.taken(extras) else {
         return Ok(());
     };
-    match taken {
-        TakenLine::Sent { host, made, .. } => {
-            let seen = observe_sending(world, host, made);
+    match &taken {
+        TakenLine::Sent {
+            host, made, wire, ..
+        } => {
+            let seen = observe_sending(world, *host, *made, wire);
             watch_step(world, duties, moment, taken, &seen)
         }
         TakenLine::CallBegin { .. }

@@ -1,6 +1,6 @@
 //! Seventh, the segment text.
 
-ghost use Rattle.spec_tcp.specs.Arrives.OtherStates.Text.{kept_bytes, kept_start, receive_after};
+ghost use Rattle.spec_tcp.specs.Arrives.OtherStates.Text.{kept_bytes, kept_start, receive_after, text_raised};
 ghost use Rattle.spec_tcp.specs.Bounds.{IsSmallEmission, greatest_position};
 ghost use Rattle.spec_tcp.specs.Endpoints.{rcv_nxt};
 ghost use Rattle.std.specs.Prelude.{◌≡◌, ◌≤◌, ◌<◌, ◌+◌, ◌^◌, IfOk, OnOk, OnErr, length};
@@ -10,7 +10,7 @@ ghost use Rattle.streams.specs.Received.{is_ended, kept, next};
 use crate::arrives::other_states::fin::{fin_place, first_byte, keeps_fin};
 use case_forms::TakeChoice;
 use segment::OutOfMemory;
-use spec_tcp::{Arrived, Endpoint, Stream};
+use spec_tcp::{Arrived, Endpoint, Stream, TextTaken};
 
 /// Stores what is kept of a segment. The answer is whether the peer's FIN and everything before it have now been
 /// received.
@@ -40,6 +40,20 @@ pub(crate) fn receive(
     }
     store(&mut endpoint.stream, start, bytes, fin)?;
     Ok(endpoint.stream.receive.is_ended())
+}
+
+/// When text raised RCV.NXT, and RCV.NXT before, if it does at this moment, in microseconds: of a moment, the first raise
+/// counts.
+pub(crate) fn text_raised(endpoint: &Endpoint, moment: u64) -> TextTaken
+    ensures { result ≡ text_raised endpoint.now moment }
+{
+    if endpoint.text.moment == moment {
+        return endpoint.text;
+    }
+    TextTaken {
+        moment,
+        before: endpoint.rcv_nxt(),
+    }
 }
 
 // Stores these bytes, and the FIN after them if there is one. If memory runs out, nothing is changed.
