@@ -182,7 +182,7 @@ abbrev pub strict_after : Sampling → Event → (before after : View) → (mome
 strict_after s event before after moment acknowledged sent o = record {
   acknowledge =
       given_back event (brought_by sent)
-          (unbuilt_answer_after event before moment acknowledged o.answered o.acknowledge);
+      (unbuilt_answer_after event before moment acknowledged o.answered o.acknowledge);
   retransmit = strict_retransmit_after event before after moment o.retransmit;
   probe = strict_probe_after event before after moment o.probe;
   restarted = restarted_after event before after moment o.restarted;

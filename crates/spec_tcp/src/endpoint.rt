@@ -50,13 +50,13 @@ pub struct Windows {
     pub rcv_adv: u64,
 }
 
-/// When a segment last raised RCV.NXT. RFC 9293, 3.10.7.4, processes a segment's acknowledgment (fifth) before its text
-/// (seventh), so what is built at this moment may have been built in between.
+/// When the text of a segment, or its FIN, last raised RCV.NXT. RFC 9293, 3.10.7.4, processes a segment's acknowledgment
+/// (fifth) before its text (seventh), so what is built at this moment may have been built in between.
 #[derive(Clone, Copy, Debug)]
 pub struct TextTaken {
     /// The moment, in microseconds.
     pub moment: u64,
-    /// RCV.NXT before all that was taken at this moment; 0 if the SYN was.
+    /// RCV.NXT before the first text that raised it at this moment; 0 if none ever did.
     pub before: u64,
 }
 

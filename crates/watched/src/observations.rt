@@ -332,7 +332,10 @@ pub fn observe_line(world: &World, moment: u64, line: &TakenLine) -> Observation
         TakenLine::CallBegin { thread, call, .. } => observe_begin(world.header(), *thread, call),
         TakenLine::CallEnd { thread, .. } => observe_end(world.header(), *thread),
         TakenLine::Sent {
-            host, made, wire, ..
+            host,
+            made,
+            wire,
+            ..
         } => observe_sending(world, *host, *made, wire),
         TakenLine::Came { line, .. } | TakenLine::Heard { line, .. } => observe_arrival(*line),
         TakenLine::Expired {

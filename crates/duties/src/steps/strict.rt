@@ -180,15 +180,7 @@ impl Duties {
     {
         let acknowledged = self.owed_by(touched.host, touched.place).acknowledged;
         let owed = self.strict_by(touched.host, touched.place);
-        let next = strict_after(
-            sampling,
-            touched,
-            after,
-            moment,
-            acknowledged,
-            sent,
-            &owed,
-        );
+        let next = strict_after(sampling, touched, after, moment, acknowledged, sent, &owed);
         self.strict.insert_owed(touched.host, touched.place, next)
     }
 

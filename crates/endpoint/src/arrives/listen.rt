@@ -8,7 +8,7 @@ ghost use Rattle.verdict.specs.Rules.{first_broken};
 use crate::arrives::other_states::window::persist_after_window;
 use crate::signals::{at_moment, told_smss};
 use case_forms::{State, TakeChoice};
-use spec_tcp::{Emission, Endpoint, TextTaken};
+use spec_tcp::{Emission, Endpoint};
 use std::alloc::Global;
 use verdict::Rule;
 use window_rules::{Control, Profile, Signal};
@@ -66,7 +66,6 @@ pub fn child(
     child.stream.receive.take_syn();
     child.window.snd_wnd = u32::from(m.window);
     child.window.snd_wl1 = m.pos;
-    child.text = TextTaken { moment, before: 0 };
     child.control = control;
     child.timers = persist_after_window(child.timers, m.window, moment);
     child

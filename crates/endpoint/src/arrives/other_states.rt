@@ -102,13 +102,11 @@ pub(crate) fn on_segment(
     let probe_due = probe_due_after_segment(endpoint, m);
     let timers = timers_before(header, endpoint, how, m, moment);
     let backoffs = backoffs_after_segment(endpoint, m);
+    let text = endpoint.text;
     let raised = text_raised(endpoint, moment);
-    let before = endpoint.rcv_nxt();
-    let ended = receive(endpoint, how, m)?;
+    let (ended, rises) = receive(endpoint, how, m)?;
     let state = finished(state, ended);
-    if before < endpoint.rcv_nxt() {
-        endpoint.text = raised;
-    }
+    endpoint.text = if rises { raised } else { text };
     endpoint.state = state;
     endpoint.stream.snd_una = snd_una;
     endpoint.window = window;

@@ -22,7 +22,7 @@ use crate::same::same_word;
 use crate::signals::{control_taken, greatest_taking};
 use case_forms::{Header, State, TakeChoice};
 use seqno::number;
-use spec_tcp::{Arrived, Endpoint, TextTaken, Windows};
+use spec_tcp::{Arrived, Endpoint, Windows};
 use timer_rules::Timers;
 use verdict::Rule;
 
@@ -103,7 +103,6 @@ pub(crate) fn on_syn(
     endpoint.stream.receive.take_syn();
     endpoint.stream.snd_una = snd_una;
     endpoint.window = window;
-    endpoint.text = TextTaken { moment, before: 0 };
     endpoint.control = control;
     endpoint.unanswered_expiries = 0;
     endpoint.backoffs = backoffs;

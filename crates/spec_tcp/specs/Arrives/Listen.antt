@@ -27,7 +27,6 @@ child profile l how m moment =
       peer_shift = m.scale;
       stream = record fresh.stream { peer = Some m.sender; receive = met };
       window = record fresh.window { snd_wnd = m.window; snd_wl1 = m.pos };
-      text = record { moment = moment; before = 0 };
       control =
           after fresh.control (Syn (told_smss m.mss)) (at_moment fresh moment) how.cwnd fresh.control.values.ssthresh;
       timers = persist_after_window fresh.timers m.window moment;

@@ -50,7 +50,6 @@ on_syn h e how m moment = record e {
   peer_shift = m.scale;
   stream = record e.stream { peer = Some m.sender; receive = met; snd_una = snd_una_after_syn e m };
   window = record e.window { snd_wnd = m.window; snd_wl1 = m.pos; snd_wl2 = if m.flags.ack then 1 else 0 };
-  text = record { moment = moment; before = 0 };
   control = after e.control (signal_of e m) (at_moment e moment) how.cwnd e.control.values.ssthresh;
   timers = timers_after_syn h e how m moment;
   unanswered_expiries = 0;

@@ -1,5 +1,5 @@
 -- Seventh, the segment text, and the stream and the state afterwards (RFC 9293, 3.10.7.4).
-use Rattle.std.specs.Prelude.{ℕ, ◌-◌, ◌==◌, nat_lt, min, max, if◌then◌else◌, List, [], slice_range}
+use Rattle.std.specs.Prelude.{ℕ, ◌-◌, ◌==◌, nat_lt, ◌&&◌, min, max, if◌then◌else◌, List, [], slice_range}
 use Rattle.case_forms.specs.declared.calls.State.{State}
 use Rattle.case_forms.specs.declared.steps.TakeChoice.{TakeChoice}
 use Rattle.streams.specs.Received.{Receiving, is_ended, kept, next}
@@ -23,7 +23,8 @@ receive_after e how m = kept e.stream.receive (kept_start e m) (kept_bytes e how
 -- the moment at which text raised the next position expected, and that position before all that was taken then
 abbrev pub text_raised : Endpoint → ℕ → TextTaken
 text_raised e moment =
-    if e.text.moment == moment then e.text else record { moment = moment; before = rcv_nxt e }
+    if e.text.moment == moment && nat_lt 0 e.text.before then e.text
+    else record { moment = moment; before = rcv_nxt e }
 
 abbrev pub text_after_segment : Endpoint → TakeChoice → Emission → ℕ → TextTaken
 text_after_segment e how m moment =
