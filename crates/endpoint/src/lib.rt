@@ -40,5 +40,6 @@ pub use reset::reset_of;
 pub use signals::greatest_taking;
 pub use timeouts::{admits_expiry, expire, greatest_values, has_more};
 pub use wire::{
-    admits_copy, admits_hearing, copy, heard, is_before_text, is_past_lifetime, matches_sent, sent,
+    acknowledges, admits_copy, admits_hearing, copy, heard, is_before_text, is_past_lifetime,
+    matches_sent, sent,
 };

@@ -43,9 +43,9 @@ fn header_matches(version: Version, segment: &Segment, m: &Emission) -> bool
         && same_bytes(segment.payload.as_slice(), m.payload.as_slice())
 }
 
-// Whether the acknowledgment number is that of the built segment, or from version 6 on that from before the text which
-// was taken at the moment of building (RFC 9293, 3.10.7.4).
-fn acknowledges(version: Version, ack: Word, m: &Emission) -> bool
+/// Whether the acknowledgment number is that of the built segment, or from version 6 on that from before the text which
+/// was taken at the moment of building (RFC 9293, 3.10.7.4).
+pub fn acknowledges(version: Version, ack: Word, m: &Emission) -> bool
     ensures { result ≡ acknowledges version ack m.now }
 {
     same_word(ack, m.ack_seq)
