@@ -52,8 +52,8 @@ pub fn acknowledges(version: Version, ack: Word, m: &Emission) -> bool
         || version.says_sender() && 0 < m.raised && same_word(number(ack, m.raised), m.ack_seq)
 }
 
-/// Whether the line of a built segment shows the acknowledgment number from before the text which was taken at the moment
-/// of building.
+/// Whether the line of a built segment shows the acknowledgment number from before the text that was taken at the
+/// moment of building.
 pub fn is_before_text(wire: &Wire, m: &Emission) -> bool
     ensures { result ≡ is_before_text wire.now m.now }
 {
@@ -97,7 +97,8 @@ pub fn matches_sent(header: &Header, wire: &Wire, m: &Emission) -> bool
 }
 
 /// The built segment after it was sent, at a moment in microseconds: with its bytes, the acknowledgment that they show,
-/// and the MSS and the shift in its options. The wire has the payload of the built segment: its parts are moved, and nothing is copied.
+/// and the MSS and the shift in its options. The wire has the payload of the built segment: its parts are moved, and
+/// nothing is copied.
 pub fn sent(moment: u64, wire: Wire, m: &Emission) -> Emission
     requires { wire.seg.payload ≡ m.now.payload }
     ensures sent { result ≡ sent moment wire m.now }
@@ -108,7 +109,7 @@ pub fn sent(moment: u64, wire: Wire, m: &Emission) -> Emission
     with_bytes(m, shown, seg.payload, bytes, (seg.mss, seg.scale), moment)
 }
 
-// The acknowledgment that the line shows: its position, and its number. Nothing else may be shown then.
+// The acknowledgment that the line shows: its position, and its number. The third is 0: no other one is possible then.
 fn shown_ack(wire: &Wire, m: &Emission) -> (u64, Word, u64)
     ensures position { result.0 ≡ (if is_before_text wire.now m.now then m.now.ack - m.now.raised else m.now.ack) }
     ensures number { result.1 ≡ (if is_before_text wire.now m.now then wire.now.seg.ack else m.now.ack_seq) }
@@ -144,8 +145,8 @@ fn same_or_copy(bytes: Bytes, wanted: &Bytes) -> Result<Bytes, OutOfMemory>
     }
 }
 
-// A segment with this payload, on the wire at a moment in microseconds: with the acknowledgment that the wire shows, its
-// bytes, and the MSS and the shift in its options.
+// A segment with this payload, on the wire at a moment in microseconds: with the acknowledgment that the wire shows
+// (position, number, and how far text raised it), its bytes, and the MSS and the shift in its options.
 #[inline(always)]
 fn with_bytes(
     m: &Emission,

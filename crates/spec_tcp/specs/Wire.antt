@@ -44,7 +44,8 @@ shift_matches s m =
 
 -- the segment on the wire is the built one; shifts are compared if windows may be scaled
 abbrev pub matches_sent : Header → Wire → Emission → Bool
-matches_sent h wire m = header_matches h.version wire.seg m && (not (scales h.version && m.flags.syn) || shift_matches wire.seg m)
+matches_sent h wire m =
+    header_matches h.version wire.seg m && (not (scales h.version && m.flags.syn) || shift_matches wire.seg m)
 
 -- the segment sent is the built one
 abbrev pub out_rules : Header → Wire → Emission → List (Rule × Bool)

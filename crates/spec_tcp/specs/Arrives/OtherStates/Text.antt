@@ -20,7 +20,8 @@ kept_bytes e how m =
 abbrev pub receive_after : Endpoint → TakeChoice → Emission → Receiving
 receive_after e how m = kept e.stream.receive (kept_start e m) (kept_bytes e how m) (keeps_fin e how m)
 
--- the moment at which text raised the next position expected, and that position before all that was taken then
+-- the moment at which text, or a FIN, raises the next position expected, and that position before all text that did so
+-- at this moment; what is built then may have been built before the text (RFC 9293, 3.10.7.4)
 abbrev pub text_raised : Endpoint → ℕ → TextTaken
 text_raised e moment =
     if e.text.moment == moment && nat_lt 0 e.text.before then e.text
