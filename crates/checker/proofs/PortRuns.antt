@@ -56,16 +56,16 @@ pub record AtHome (a : Hosts) (x : Host) (h : HostState tcp_shape) : Type 0 wher
   pub wire : AllIn (FromHost a x) h.wire
   pub inbox : (n : ℕ) (m : Emission) → waiting n h.inbox ≡ Some m → FromHost a (other x) m
 
-made_home : (a : Hosts) (x : Host) (m : SegmentPlan) (o : Option ℕ) → place_of (pick a x).body m.lport m.rport ≡ o
-    → (e : Emission) → option_map_or (made_at x (pick a x).body m) o None ≡ Some e → FromHost a x e
-made_home a x m None at e is = absurd (none-some e is)
-made_home a x m (Some i) at e is = go (slice_get (pick a x).body.endpoints i) refl is
+made_home : (a : Hosts) (x : Host) (moment : ℕ) (m : SegmentPlan) (o : Option ℕ) → place_of (pick a x).body m.lport m.rport ≡ o
+    → (e : Emission) → option_map_or (made_at x moment (pick a x).body m) o None ≡ Some e → FromHost a x e
+made_home a x moment m None at e is = absurd (none-some e is)
+made_home a x moment m (Some i) at e is = go (slice_get (pick a x).body.endpoints i) refl is
   where
     go : (p : Option Endpoint) → slice_get (pick a x).body.endpoints i ≡ p
-        → option_map (λ y. emission_of (record { host = x; number = i }) y m) p ≡ Some e → FromHost a x e
+        → option_map (λ y. emission_of (record { host = x; number = i }) y m moment) p ≡ Some e → FromHost a x e
     go None there is = absurd (none-some e is)
     go (Some y) there is = let ports = place_ports (pick a x).body m.lport m.rport i y at there in
-        subst (λ (z : Emission). FromHost a x z) (same_Some (emission_of (record { host = x; number = i }) y m) e is)
+        subst (λ (z : Emission). FromHost a x z) (same_Some (emission_of (record { host = x; number = i }) y m moment) e is)
         (λ s. (refl, (y, there, ports.0, ports.1)))
 
 made_more : (a : Hosts) (x : Host) (made : List (ℕ × Made Emission)) (fresh : ℕ) (o : Option Emission)
@@ -92,9 +92,9 @@ host_step_home h both s w host (Does x) may g far = record { made = g.made; wire
 host_step_home h both s w host (Expires line x) may g far = record { made = g.made; wire = g.wire; inbox = g.inbox }
 host_step_home h both s w host (Makes m) may g far = record {
   made = made_more w.hosts host (pick w.hosts host).made (suc w.count)
-      (option_map_or (made_at host (pick w.hosts host).body m)
+      (option_map_or (made_at host s (pick w.hosts host).body m)
       (place_of (pick w.hosts host).body m.lport m.rport) None)
-      (made_home w.hosts host m (place_of (pick w.hosts host).body m.lport m.rport) refl) g.made;
+      (made_home w.hosts host s m (place_of (pick w.hosts host).body m.lport m.rport) refl) g.made;
   wire = g.wire;
   inbox = g.inbox;
 }

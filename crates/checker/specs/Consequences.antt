@@ -53,7 +53,8 @@ pub record KeepsWindows (h : Header) (before : List (Stamped tcp_shape)) (x : St
   -- which is that of the RFC that the header names
   pub named : ProfilesAreNamed h (world_at_end h before)
   -- bytes that are made for the first time end within the window that the peer offers and within the congestion window
-  pub fits : (host : Host) (m : SegmentPlan) → x.step ≡ At host (Makes m) → NewDataFits (world_at_end h before) host m
+  pub fits : (host : Host) (m : SegmentPlan) → x.step ≡ At host (Makes m)
+      → NewDataFits (world_at_end h before) host x.moment m
 
 abbrev pub AllKeepWindows : Trace → Witness → Type 0
 AllKeepWindows t w = EachStep (steps_of t w) (λ before x. KeepsWindows t.header before x)

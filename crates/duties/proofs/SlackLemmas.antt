@@ -36,9 +36,9 @@ use Rattle.spec_duties.specs.Reset.{reset_since}
 use Rattle.spec_duties.specs.Observations.{observe}
 use Rattle.spec_cases.specs.Slack.{AtMost, HasMoreCredits, LessLateIsMoreAccepted, NothingIsJudged, SlackIsHardlyNoted, AreInOrder, credits_left, with_slack}
 use Rattle.spec_duties.specs.Start.{start_due}
-use Rattle.spec_duties.specs.Strict.{coarse_expiry_due, coarse_probing_due, strict_lates, with_brought}
+use Rattle.spec_duties.specs.Strict.{brought_by, coarse_expiry_due, coarse_probing_due, strict_lates, with_brought}
 use Rattle.spec_duties.specs.Views.{view_of}
-use Rattle.spec_duties.specs.Watching.{Duties, brought_by, built_by, counts_now, credits_after, credits_earned}
+use Rattle.spec_duties.specs.Watching.{Duties, built_by, counts_now, credits_after, credits_earned}
 use Rattle.spec_duties.specs.Watching.{credits_spent, duty_rules, judged_lates, lacks_credit}
 use Rattle.spec_duties.specs.Watching.{answer_rules, leaves_late, listener_closed, owed_by, sends_in_excess, sent_by, sent_late, strict_by, touched_rules}
 use Rattle.spec_duties.specs.declared.answering.OpenCall.TheVariants as open_call

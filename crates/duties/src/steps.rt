@@ -20,13 +20,13 @@ ghost use Rattle.spec_duties.specs.Watching.{queued, sent_late, start, touched_r
 mod answers;
 mod strict;
 
-use self::strict::brought_by;
 use crate::answer_tables::AnswerTables;
 use crate::deadlines::is_late_at_once;
 use crate::excess::{is_excess, is_mere_ack, one_more};
 use crate::owed::{admits_lates, admits_owed, nothing, owed_after, owed_open};
 use crate::per_host::PerHost;
 use crate::resent::{is_resent, is_resent_beyond};
+use crate::strict::brought_by;
 use crate::strict_tables::StrictTables;
 use case_forms::{Header, Host, OutOfMemory};
 use spec_duties::{

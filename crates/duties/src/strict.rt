@@ -2,7 +2,8 @@
 //! `lib.rt` says why each function here is inlined.
 
 ghost use Rattle.std.specs.Prelude.{◌≡◌, ◌*◌, ◌^◌, min, if◌then◌else◌};
-ghost use Rattle.spec_duties.specs.Strict.{answered_after, answered_often, asks_strictly};
+ghost use Rattle.spec_duties.specs.Strict.{answered_after, answered_often, asks_strictly, brought_by};
+ghost use Rattle.spec_duties.specs.Strict.{earlier_of, given_back, is_sent_before_text, sends_keep_alive};
 ghost use Rattle.spec_duties.specs.Strict.{builds_answer, clock_error, coarse_expiry_due, coarse_probing_due};
 ghost use Rattle.spec_duties.specs.Strict.{doubled_error, is_fin_alone, is_spared, longest_coarse_run};
 ghost use Rattle.spec_duties.specs.Strict.{next_coarse_probe_due, nothing_strict, opens, rebuilds_oldest};
@@ -20,7 +21,9 @@ use crate::resent::making_length;
 use crate::retransmit::{acknowledges_more, holds, is_probe_timeout, is_timeout};
 use crate::sampling::timed_after;
 use case_forms::{SegmentPlan, State};
-use spec_duties::{Event, Lates, Owed, Probing, Sampling, StrictOwed, TouchedEndpoint, View};
+use spec_duties::{
+    Event, Lates, Owed, Probing, Sampling, StrictOwed, TouchedEndpoint, Unsent, View,
+};
 use timer_rules::LONGEST_RTO;
 
 /// Before any step touches an endpoint.
@@ -149,6 +152,68 @@ pub(crate) fn taken_over(event: &Event, since: Option<u64>) -> Option<u64>
     ensures { result ≡ taken_over event.now since }
 {
     if builds_answer(event) { since } else { None }
+}
+
+/// Since when the acknowledgment is owed that a segment brings which is sent. None: it brings none.
+#[inline(always)]
+pub(crate) fn brought_by(sent: &Option<Unsent>) -> Option<u64>
+    ensures { result ≡ brought_by sent.now }
+{
+    match sent {
+        Some(unsent) => unsent.acknowledge,
+        None => None,
+    }
+}
+
+// Whether the segment that is sent is a keep-alive.
+#[inline(always)]
+fn sends_keep_alive(sent: &Option<Unsent>) -> bool
+    ensures { result ≡ sends_keep_alive sent.now }
+{
+    match sent {
+        Some(unsent) => unsent.keeps_alive,
+        None => false,
+    }
+}
+
+#[inline(always)]
+fn is_sent_before_text(event: &Event) -> bool
+    ensures { result ≡ is_sent_before_text event.now }
+{
+    match event {
+        Event::Sends(sending) => sending.before_text,
+        Event::Opens
+        | Event::Calls { .. }
+        | Event::Processes { .. }
+        | Event::Drops { .. }
+        | Event::Builds(_)
+        | Event::Expires(_)
+        | Event::Recovers => false,
+    }
+}
+
+#[inline(always)]
+fn earlier_of(a: Option<u64>, b: Option<u64>) -> Option<u64>
+    ensures { result ≡ earlier_of a b }
+{
+    match (a, b) {
+        (None, b) => b,
+        (Some(a), None) => Some(a),
+        (Some(a), Some(b)) => Some(a.min(b)),
+    }
+}
+
+// Since when the endpoint owes an acknowledgment, if it owes again what the segment took over which is sent: its line
+// shows the number from before the text.
+#[inline(always)]
+fn given_back(event: &Event, brought: Option<u64>, since: Option<u64>) -> Option<u64>
+    ensures { result ≡ given_back event.now brought since }
+{
+    if is_sent_before_text(event) {
+        earlier_of(brought, since)
+    } else {
+        since
+    }
 }
 
 /// Whether a segment that is built need not be sent.
@@ -360,7 +425,7 @@ fn strict_probe_after(
 }
 
 /// What an endpoint owes by the stricter duties after a step that touched it, if it is then seen like this.
-/// `acknowledged`: when it last sent a segment with ACK, before the step; `keeps_alive`: it sends a keep-alive.
+/// `acknowledged`: when it last sent a segment with ACK, before the step; `sent`: the segment that it sends.
 #[inline(always)]
 pub(crate) fn strict_after(
     sampling: Sampling,
@@ -368,22 +433,23 @@ pub(crate) fn strict_after(
     after: &View,
     moment: u64,
     acknowledged: Option<u64>,
-    keeps_alive: bool,
+    sent: &Option<Unsent>,
     owed: &StrictOwed,
 ) -> StrictOwed
     ensures { result ≡ strict_after sampling touched.now.event touched.now.before after.now moment acknowledged
-        keeps_alive owed.now }
+        sent.now owed.now }
 {
     let (event, before) = (&touched.event, &touched.before);
+    let since = unbuilt_answer_after(event, before, moment, acknowledged, owed);
     StrictOwed {
-        acknowledge: unbuilt_answer_after(event, before, moment, acknowledged, owed),
+        acknowledge: given_back(event, brought_by(sent), since),
         retransmit: strict_retransmit_after(event, before, after, moment, owed.retransmit),
         probe: strict_probe_after(event, before, after, moment, owed.probe),
         restarted: restarted_after(event, before, after, moment, owed.restarted),
         timed: timed_after(sampling, event, before, after, owed.timed),
         widest: owed.widest.max(after.snd_wnd),
         answered: answered_after(event, moment, owed.answered),
-        kept_alive: kept_alive_after(keeps_alive, moment, owed.kept_alive),
+        kept_alive: kept_alive_after(sends_keep_alive(sent), moment, owed.kept_alive),
     }
 }
 

@@ -39,4 +39,7 @@ pub use recovery::{admits_recovery, greatest_at_recovery, greatest_recovery, rec
 pub use reset::reset_of;
 pub use signals::greatest_taking;
 pub use timeouts::{admits_expiry, expire, greatest_values, has_more};
-pub use wire::{admits_copy, admits_hearing, copy, heard, is_past_lifetime, matches_sent, sent};
+pub use wire::{
+    acknowledges, admits_copy, admits_hearing, copy, heard, is_before_text, is_past_lifetime,
+    matches_sent, sent,
+};

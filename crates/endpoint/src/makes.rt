@@ -15,7 +15,9 @@ pub(crate) mod edges;
 pub(crate) mod kind;
 pub(crate) mod payload;
 
-use crate::makes::edges::{acknowledgment, is_bad_ack, is_beyond_offer, is_congesting, own_edge};
+use crate::makes::edges::{
+    acknowledgment, is_bad_ack, is_beyond_offer, is_congesting, own_edge, raised_at,
+};
 use crate::makes::kind::{
     close_after_reset, given_shift, is_bad_iss, makes_nothing, may_make, seq_of,
 };
@@ -77,12 +79,12 @@ pub fn make(
     moment: u64,
 ) -> Result<Emission, OutOfMemory>
     requires { IsSmall endpoint.old making.now }
-    ensures made { IfOk result (λ m. m ≡ emission_of me endpoint.old making.now) }
+    ensures made { IfOk result (λ m. m ≡ emission_of me endpoint.old making.now moment) }
     ensures small { IfOk result IsSmallEmission }
     ensures ok { OnOk result (endpoint.new ≡ after_making endpoint.old making.now moment) }
     ensures err { OnErr result (endpoint.new ≡ endpoint.old) }
 {
-    let emission = emission_of(alloc, endpoint, me, making)?;
+    let emission = emission_of(alloc, endpoint, me, making, moment)?;
     change(endpoint, making, moment)?;
     if making.flags.rst {
         close_after_reset(endpoint);
@@ -95,9 +97,10 @@ fn emission_of(
     endpoint: &Endpoint,
     me: EndpointId,
     making: &SegmentPlan,
+    moment: u64,
 ) -> Result<Emission, OutOfMemory>
     requires { making.now.pos ≤ greatest_position }
-    ensures made { IfOk result (λ m. m ≡ emission_of me endpoint.now making.now) }
+    ensures made { IfOk result (λ m. m ≡ emission_of me endpoint.now making.now moment) }
     ensures small { IfOk result IsSmallEmission }
 {
     let payload = endpoint
@@ -114,6 +117,7 @@ fn emission_of(
         ack,
         seq: seq_of(endpoint.iss.or(making.iss), making.pos),
         ack_seq,
+        raised: raised_at(endpoint, making, moment),
         flags: making.flags,
         window: making.window,
         payload: Bytes::from(payload),

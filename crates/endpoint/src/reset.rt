@@ -30,6 +30,7 @@ pub fn reset_of(alloc: Global, m: &Emission) -> Emission
         ack: 0,
         seq: if acknowledges { m.ack_seq } else { Word(0) },
         ack_seq: number_behind(m.seq, m.length()),
+        raised: 0,
         flags: Flags {
             ack: !acknowledges,
             rst: true,

@@ -5,9 +5,9 @@ ghost use Rattle.spec_network.specs.HostRules.{just};
 ghost use Rattle.spec_tcp.specs.Bounds.{IsSmallEmission};
 ghost use Rattle.spec_tcp.specs.Heard.{heard, most_bytes, told_flags};
 ghost use Rattle.spec_tcp.specs.Same.{same_bytes};
-ghost use Rattle.spec_tcp.specs.Wire.{ack_matches, header_matches, in_rules, matches_sent, may_acknowledge};
-ghost use Rattle.spec_tcp.specs.Wire.{same_flags, sent, sent_ack, shift_matches};
-ghost use Rattle.std.specs.Prelude.{◌≡◌, ◌≤◌, IfOk, ◌+◌, length, nat_lt, not, take};
+ghost use Rattle.spec_tcp.specs.Wire.{ack_matches, acknowledges, header_matches, in_rules, is_before_text, matches_sent};
+ghost use Rattle.spec_tcp.specs.Wire.{may_acknowledge, same_flags, sent, sent_ack, shift_matches};
+ghost use Rattle.std.specs.Prelude.{◌≡◌, ◌≤◌, IfOk, ◌+◌, ◌-◌, if◌then◌else◌, length, nat_lt, not, take};
 ghost use Rattle.std.specs.Result.{result_err};
 ghost use Rattle.verdict.specs.Rules.{first_broken};
 ghost use Rattle.verdict.specs.declared.rule.Rule.TheVariants.{NoEmission};
@@ -15,6 +15,7 @@ ghost use Rattle.verdict.specs.declared.rule.Rule.TheVariants.{NoEmission};
 use crate::same::{same_bool, same_word};
 use case_forms::{Flags, Header, Host, Version, Wire};
 use segment::{Bytes, Flag, OutOfMemory, Segment};
+use seqno::{Word, number};
 use spec_tcp::{Emission, EndpointId};
 use std::alloc::Global;
 use verdict::Rule;
@@ -41,6 +42,23 @@ fn header_matches(version: Version, segment: &Segment, m: &Emission) -> bool
         && same_bytes(segment.payload.as_slice(), m.payload.as_slice())
 }
 
+/// Whether the acknowledgment number is that of the built segment, or from version 6 on that from before the text which
+/// was taken at the moment of building (RFC 9293, 3.10.7.4).
+pub fn acknowledges(version: Version, ack: Word, m: &Emission) -> bool
+    ensures { result ≡ acknowledges version ack m.now }
+{
+    same_word(ack, m.ack_seq)
+        || version.says_sender() && 0 < m.raised && same_word(number(ack, m.raised), m.ack_seq)
+}
+
+/// Whether the line of a built segment shows the acknowledgment number from before the text that was taken at the
+/// moment of building.
+pub fn is_before_text(wire: &Wire, m: &Emission) -> bool
+    ensures { result ≡ is_before_text wire.now m.now }
+{
+    0 < m.raised && !same_word(wire.seg.ack, m.ack_seq)
+}
+
 #[tactic(auto, using(crate::proofs::Bytes::same_bytes_is))]
 fn same_bytes(a: &[u8], b: &[u8]) -> bool
     ensures { result ≡ same_bytes a.now b.now }
@@ -55,12 +73,12 @@ fn may_acknowledge(version: Version, m: &Emission) -> bool
     m.flags.ack || version.says_sender() && m.is_reset_reply
 }
 
-// Whether ACK is that of the built segment, and so is the number that is acknowledged.
+// Whether a segment with ACK may have it, and its number; one without must be built without.
 fn ack_matches(version: Version, segment: &Segment, m: &Emission) -> bool
     ensures { result ≡ ack_matches version segment.now m.now }
 {
     if segment.has(Flag::Ack) {
-        may_acknowledge(version, m) && same_word(segment.ack, m.ack_seq)
+        may_acknowledge(version, m) && acknowledges(version, segment.ack, m)
     } else {
         !m.flags.ack
     }
@@ -105,17 +123,52 @@ fn sent_ack(segment: &Segment, m: &Emission) -> bool
     }
 }
 
-/// The built segment after it was sent, at a moment in microseconds: with its bytes, and the MSS and the shift in its
-/// options; a reset in answer to a segment acknowledges if the wire shows it. The wire has the payload of the built
-/// segment: its parts are moved, and nothing is copied.
+// What a line shows of the acknowledgment: whether there is one, the position that it acknowledges, its number, and how
+// far text of the moment raised it.
+struct Shown {
+    ack: bool,
+    position: u64,
+    number: Word,
+    raised: u64,
+}
+
+/// The built segment after it was sent, at a moment in microseconds: with its bytes, the acknowledgment that they show,
+/// and the MSS and the shift in its options. The wire has the payload of the built segment: its parts are moved, and
+/// nothing is copied.
 pub fn sent(moment: u64, wire: Wire, m: &Emission) -> Emission
     requires { wire.seg.payload ≡ m.now.payload }
     ensures sent { result ≡ sent moment wire m.now }
     ensures small { IsSmallEmission m.now → IsSmallEmission result }
 {
-    let ack = sent_ack(&wire.seg, m);
+    let shown = shown_ack(&wire, m);
     let Wire { bytes, seg } = wire;
-    with_bytes(m, ack, seg.payload, bytes, (seg.mss, seg.scale), moment)
+    with_bytes(m, shown, seg.payload, bytes, (seg.mss, seg.scale), moment)
+}
+
+// The acknowledgment that the line shows. No other number is possible then.
+fn shown_ack(wire: &Wire, m: &Emission) -> Shown
+    ensures { result ≡ record {
+      ack = sent_ack wire.now.seg m.now;
+      position = if is_before_text wire.now m.now then m.now.ack - m.now.raised else m.now.ack;
+      number = if is_before_text wire.now m.now then wire.now.seg.ack else m.now.ack_seq;
+      raised = 0;
+    } }
+{
+    let ack = sent_ack(&wire.seg, m);
+    if is_before_text(wire, m) {
+        return Shown {
+            ack,
+            position: m.ack.saturating_sub(m.raised),
+            number: wire.seg.ack,
+            raised: 0,
+        };
+    }
+    Shown {
+        ack,
+        position: m.ack,
+        number: m.ack_seq,
+        raised: 0,
+    }
 }
 
 /// A copy of a segment, as it arrives on a wire that has its bytes: they are moved, and so is the payload if the
@@ -126,8 +179,14 @@ pub fn copy(wire: Wire, m: &Emission) -> Result<Emission, OutOfMemory>
 {
     let Wire { bytes, seg } = wire;
     let payload = same_or_copy(seg.payload, &m.payload)?;
+    let shown = Shown {
+        ack: m.flags.ack,
+        position: m.ack,
+        number: m.ack_seq,
+        raised: m.raised,
+    };
     let told = (m.mss, m.scale);
-    Ok(with_bytes(m, m.flags.ack, payload, bytes, told, m.moment))
+    Ok(with_bytes(m, shown, payload, bytes, told, m.moment))
 }
 
 // These bytes if they are the required ones, else a copy of those.
@@ -141,19 +200,22 @@ fn same_or_copy(bytes: Bytes, wanted: &Bytes) -> Result<Bytes, OutOfMemory>
     }
 }
 
-// A segment with this flag ACK and this payload, on the wire at a moment in microseconds: with its bytes, and the MSS
-// and the shift in its options.
+// A segment with this payload, on the wire at a moment in microseconds: with the acknowledgment that the wire shows, its
+// bytes, and the MSS and the shift in its options.
 #[inline(always)]
 fn with_bytes(
     m: &Emission,
-    ack: bool,
+    shown: Shown,
     payload: Bytes,
     bytes: Bytes,
     told: (Option<u16>, Option<u8>),
     moment: u64,
 ) -> Emission
     ensures { result ≡ record m.now {
-      flags = record m.now.flags { ack = ack };
+      ack = shown.position;
+      ack_seq = shown.number;
+      raised = shown.raised;
+      flags = record m.now.flags { ack = shown.ack };
       payload = payload;
       bytes = bytes;
       mss = told.0;
@@ -167,10 +229,11 @@ fn with_bytes(
         lport: m.lport,
         rport: m.rport,
         pos: m.pos,
-        ack: m.ack,
+        ack: shown.position,
         seq: m.seq,
-        ack_seq: m.ack_seq,
-        flags: Flags { ack, ..m.flags },
+        ack_seq: shown.number,
+        raised: shown.raised,
+        flags: Flags { ack: shown.ack, ..m.flags },
         window: m.window,
         payload,
         shift: m.shift,
@@ -211,6 +274,7 @@ pub fn heard(alloc: Global, moment: u64, wire: &Wire) -> Result<Emission, OutOfM
         ack: 0,
         seq: wire.seg.seq,
         ack_seq: wire.seg.ack,
+        raised: 0,
         flags: told_flags(&wire.seg),
         window: wire.seg.window,
         payload: Bytes::from_slice(alloc, payload)?,

@@ -99,14 +99,14 @@ module _ (hd : Header) (me : Host) (moment steps : ℕ) (h : HostState tcp_shape
         tables = record { made = k.tables.made; wire = k.tables.wire; inbox = k.tables.inbox };
       }
 
-  makes_kept : (fresh : ℕ) (making : SegmentPlan) → IsSmallHostStep me h (Makes making)
+  makes_kept : (fresh : ℕ) (making : SegmentPlan) → IsSmallHostStep me moment h (Makes making)
       → first_broken (act_rules hd me moment h.body (acts.Makes making)) ≡ None
       → IsKeptHost (suc steps) (forget_host (host_step_after (tcp hd) me moment fresh [] h (Makes making)))
   makes_kept fresh making small permitted = record {
     body = act_kept (acts.Makes making) tt permitted;
     tables =
         record {
-          made = made_small h.made fresh (act_makes me h.body (acts.Makes making)) small k.tables.made;
+          made = made_small h.made fresh (act_makes me moment h.body (acts.Makes making)) small k.tables.made;
           wire = k.tables.wire;
           inbox = k.tables.inbox;
         };
@@ -177,7 +177,7 @@ module _ (hd : Header) (me : Host) (moment steps : ℕ) (h : HostState tcp_shape
   }
 
   host_step_kept : (fresh : ℕ) (far : List (ℕ × Emission)) (d : HostStep tcp_shape) → All (λ x. IsSmallEmission x.1) far
-      → IsSmallHostStep me h d → first_broken (host_step_rules (tcp hd) me moment far h d) ≡ None
+      → IsSmallHostStep me moment h d → first_broken (host_step_rules (tcp hd) me moment far h d) ≡ None
       → IsKeptHost (suc steps) (forget_host (host_step_after (tcp hd) me moment fresh far h d))
   host_step_kept fresh far (Does x) others small permitted = body_kept (acts.Recovers x) tt permitted
   host_step_kept fresh far (Expires line x) others small permitted = body_kept (acts.Expires x) tt permitted
@@ -222,7 +222,7 @@ module _ (h : Header) (moment steps : ℕ) (w : World tcp_shape) (k : IsKeptWorl
         count = count_later steps w.count false k.count;
       }
 
-  host_step_at : (host : Host) (d : HostStep tcp_shape) → IsSmallHostStep host (pick w.hosts host) d
+  host_step_at : (host : Host) (d : HostStep tcp_shape) → IsSmallHostStep host moment (pick w.hosts host) d
       → Permitted (tcp h) moment w (At host d) → Kept (after (tcp h) moment w (At host d))
   host_step_at Zero d small permitted = record {
     zero = host_step_kept h Zero moment steps w.hosts.zero k.zero (suc w.count) w.hosts.one.wire d k.one.tables.wire small permitted;
@@ -263,7 +263,7 @@ module _ (h : Header) (moment steps : ℕ) (w : World tcp_shape) (k : IsKeptWorl
       (aim_of (tcp h) w.hosts (aim call)) small permitted
   effect_at t answer (Answered given) small permitted = turn_kept w.threads
 
-pub kept_after : (h : Header) (moment steps : ℕ) (w : World tcp_shape) (step : Step tcp_shape) → IsSmallStep w step
+pub kept_after : (h : Header) (moment steps : ℕ) (w : World tcp_shape) (step : Step tcp_shape) → IsSmallStep moment w step
     → Permitted (tcp h) moment w step → IsKeptWorld steps w
     → IsKeptWorld (suc steps) (forget (after (tcp h) moment w step))
 kept_after h moment steps w (Begin line t call) small permitted k = turn_kept h moment steps w k (insert_entry nat_eq w.threads t (Called call))

@@ -49,7 +49,7 @@ answered line fresh m h b made wire inbox is waits =
 pub made_is : (me : Host) (moment fresh place : ℕ) (plan : SegmentPlan) (m : Emission) (h : Host_) (b new : HostTcp)
     (made after : List (ℕ × Made Emission)) (wire : List (ℕ × Emission)) (inbox : List (ℕ × Option Emission))
     → parts b made wire inbox ≡ h → place_of b plan.lport plan.rport ≡ Some place
-    → option_map (λ e. emission_of (record { host = me; number = place }) e plan) (slice_get b.endpoints place) ≡ Some m
+    → option_map (λ e. emission_of (record { host = me; number = place }) e plan moment) (slice_get b.endpoints place) ≡ Some m
     → new ≡ forget_body (with_endpoint b place (λ e. after_making e plan moment)) → after ≡ insert_entry nat_eq made fresh (unsent m)
     → parts new after wire inbox ≡ forget_host (made_one me moment fresh plan h)
 made_is me moment fresh place plan m h b new made after wire inbox is at makes new_is after_is =

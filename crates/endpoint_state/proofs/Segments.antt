@@ -1,5 +1,5 @@
 -- Segments that are made, go out or come in are small, also as an endpoint reads them.
-use Rattle.std.proofs.Common.{◌≡◌, ℕ, ◌<◌, ◌≤◌, ◌^◌, Bool, true, false, Option, None, Some, refl, length-take, arith}
+use Rattle.std.proofs.Common.{◌≡◌, ℕ, ◌-◌, ◌<◌, ◌≤◌, ◌^◌, Bool, true, false, Option, None, Some, refl, length-take, arith}
 use Rattle.std.specs.Prelude.{nat_le, not, ◌&&◌, if◌then◌else◌}
 use Rattle.std.specs.Option.{option_map_or}
 use Rattle.std.proofs.lemmas.Bool.Decides.{nat_tests}
@@ -12,13 +12,17 @@ use Rattle.spec_tcp.specs.declared.endpoint.Endpoint.{Endpoint}
 use Rattle.spec_tcp.specs.Bounds.{IsSmallEmission, greatest_position}
 use Rattle.spec_tcp.specs.Heard.{as_read, heard, position_near, read_at, readable}
 use Rattle.spec_tcp.specs.Reset.{reset_of}
-use Rattle.spec_tcp.specs.Wire.{sent}
+use Rattle.spec_tcp.specs.Wire.{is_before_text, sent}
 
 pub resets_small : (m : Emission) → IsSmallEmission (reset_of m)
 resets_small m = record { pos = omega arith; ack = omega arith; payload = omega arith }
 
 pub sent_small : (moment : ℕ) (wire : Wire) (m : Emission) → IsSmallEmission m → IsSmallEmission (sent moment wire m)
-sent_small moment wire m small = record { pos = small.pos; ack = small.ack; payload = small.payload }
+sent_small moment wire m small = record { pos = small.pos; ack = by (is_before_text wire m); payload = small.payload }
+  where
+    by : (before : Bool) → (if before then m.ack - m.raised else m.ack) < 2 ^ 63
+    by true = let most = small.ack in omega arith
+    by false = small.ack
 
 pub heard_small : (moment : ℕ) (wire : Wire) → IsSmallEmission (heard moment wire)
 heard_small moment wire = let few = length-take 65535 wire.seg.payload in record { pos = omega arith; ack = omega arith; payload = omega arith }

@@ -32,7 +32,7 @@ use Rattle.verdict.specs.declared.rule.Rule.TheVariants as rules
 abbrev pub made_one : Host → (moment fresh : ℕ) → SegmentPlan → HostState tcp_shape → HostState tcp_shape
 made_one me moment fresh plan h = record h {
   body = at_ports h.body plan.lport plan.rport (λ e. after_making e plan moment);
-  made = on (act_makes me h.body (acts.Makes plan)) h.made (λ e. insert_entry nat_eq h.made fresh (unsent e));
+  made = on (act_makes me moment h.body (acts.Makes plan)) h.made (λ e. insert_entry nat_eq h.made fresh (unsent e));
 }
 
 -- the segment of that number is on the wire with that line

@@ -135,8 +135,8 @@ impl Endpoints {
         requires kept { All HasRoom self.old }
         requires small { making.now.pos ≤ greatest_position }
         requires there { is_some (slice_get self.old me.number) ≡ true }
-        ensures made { IfOk result (λ m. option_map (λ e. emission_of me e making.now) (slice_get self.old me.number)
-            ≡ Some m) }
+        ensures made { IfOk result (λ m. option_map (λ e. emission_of me e making.now moment)
+            (slice_get self.old me.number) ≡ Some m) }
         ensures small { IfOk result IsSmallEmission }
         ensures ok { OnOk result (self.new ≡ changed self.old me.number (λ e. after_making e making.now moment)) }
         ensures err { OnErr result (self.new ≡ self.old) }
@@ -278,7 +278,7 @@ fn make_one(
 ) -> Result<Emission, OutOfMemory>
     requires room { HasRoom endpoint.old }
     requires small { making.now.pos ≤ greatest_position }
-    ensures made { IfOk result (λ m. m ≡ emission_of me endpoint.old making.now) }
+    ensures made { IfOk result (λ m. m ≡ emission_of me endpoint.old making.now moment) }
     ensures small { IfOk result IsSmallEmission }
     ensures ok { OnOk result (endpoint.new ≡ forget_endpoint (after_making endpoint.old making.now moment)) }
     ensures err { OnErr result (endpoint.new ≡ endpoint.old) }

@@ -81,7 +81,7 @@ pub(crate) fn make(
     ensures fault { fault_rule result ≡ first_broken
         (rules_at host.old.body plan.now.lport plan.now.rport (λ e. making_rules version e plan.now)) }
     ensures ok { OnOk result (host.new ≡ forget_host (made_one me moment fresh plan.now host.old)) }
-    ensures small { OnOk result (IfSome (act_makes me host.old.body (acts.Makes plan.now)) IsSmallEmission) }
+    ensures small { OnOk result (IfSome (act_makes me moment host.old.body (acts.Makes plan.now)) IsSmallEmission) }
     ensures err { OnErr result (host.new ≡ host.old) }
 {
     let number = host.body.admitted_making(version, plan)?;

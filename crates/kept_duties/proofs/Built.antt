@@ -112,7 +112,7 @@ module _ (h : Header) (slack n : ℕ) (acts : ℕ → Option (Stamped tcp_shape)
   -- a segment in the model's table was built, and if it isn't sent, duties know when
   pub record InTime (to : ℕ) (k : Known) (host : Host) (number : ℕ) (m : Made Emission) : Type 0 where
     pub was : WasBuilt to host number
-    pub content : made_by (known was.place).model was.act.step ≡ Some m.emission
+    pub content : made_by was.act.moment (known was.place).model was.act.step ≡ Some m.emission
     pub waits : m.sent ≡ false → (b : Built) × (waiting number k.duties.built ≡ Some b) × (b.since ≡ was.act.moment)
         × (b.counts ≡ counts_by (known was.place) was.act)
 
@@ -145,7 +145,7 @@ module _ (h : Header) (slack n : ℕ) (acts : ℕ → Option (Stamped tcp_shape)
         ap (λ (d : Duties). waiting q d.built) goes.duties
         ∙ ap (λ p. waiting q (built_after shown_view x.moment (observe h x.moment (known j).model x.step).touched p table)) shows
 
-    new : (host : Host) (number : ℕ) (m : Made Emission) → IsNew (known j).model x.step host number m → InTime (suc j) (known (suc j)) host number m
+    new : (host : Host) (number : ℕ) (m : Made Emission) → IsNew x.moment (known j).model x.step host number m → InTime (suc j) (known (suc j)) host number m
     new host number m now = record {
       was = record { place = j; act = x; low = omega arith; is = is; builds = now.built; count = now.number };
       content = now.content;
@@ -190,7 +190,7 @@ module _ (h : Header) (slack n : ℕ) (acts : ℕ → Option (Stamped tcp_shape)
         by (made_from h x.moment (known j).model x.step host number m
         (ap (λ (w : World tcp_shape). lookup (nat_eq number) (pick w.hosts host).made) (sym goes.model) ∙ there))
       where
-        by : IsMade (known j).model x.step host number m → InTime (suc j) (known (suc j)) host number m
+        by : IsMade x.moment (known j).model x.step host number m → InTime (suc j) (known (suc j)) host number m
         by (inl now) = new host number m now
         by (inr was) =
             let old = all host number was.before was.there in
@@ -221,7 +221,7 @@ module _ (h : Header) (slack n : ℕ) (acts : ℕ → Option (Stamped tcp_shape)
     pub was : WasBuilt j host number
     pub made : Made Emission
     pub there : lookup (nat_eq number) (pick (known j).model.hosts host).made ≡ Some made
-    pub content : made_by (known was.place).model was.act.step ≡ Some made.emission
+    pub content : made_by was.act.moment (known was.place).model was.act.step ≡ Some made.emission
     pub counts : counts_now (built_by (known j).duties (observe h y.moment (known j).model y.step).built_change) ≡ counts_by (known was.place) was.act
 
   pub sent_was_built : (j : ℕ) (y : Stamped tcp_shape) (host : Host) (number : ℕ) → j < n → acts j ≡ Some y → sends y.step ≡ Some (host, number)

@@ -140,27 +140,27 @@ mere_builds event before after is = absurd cc
 -- what a step that sends shows
 sending_shows : (h : Header) (moment : ℕ) (v : World tcp_shape) (step : Step tcp_shape) (host : Host) (n : ℕ) (m : Made Emission)
     → sends step ≡ Some (host, n) → lookup (nat_eq n) (pick v.hosts host).made ≡ Some m
-    → (observe h moment v step).touched ≡ at_sender host (pick v.hosts host).body m.emission
+    → (wire : Wire) × ((observe h moment v step).touched ≡ at_sender host (pick v.hosts host).body wire m.emission)
 sending_shows h moment v (At g (Sends line k wire)) host n m e there =
     let same = some_pair_parts g host k n e in
     let at : lookup (nat_eq k) (pick v.hosts g).made ≡ Some m =
     subst (λ (x : Host). lookup (nat_eq k) (pick v.hosts x).made ≡ Some m) (sym same.0)
     (subst (λ (q : ℕ). lookup (nat_eq q) (pick v.hosts host).made ≡ Some m) (sym same.1) there) in
-    ap (λ (o : Option (Made Emission)). (on o unseen (λ (m : Made Emission). record unseen {
-      touched = at_sender g (pick v.hosts g).body m.emission;
+    (wire, ap (λ (o : Option (Made Emission)). (on o unseen (λ (m : Made Emission). record unseen {
+      touched = at_sender g (pick v.hosts g).body wire m.emission;
       built_change = built_change.Sends k;
     })).touched) at
-    ∙ ap (λ (x : Host). at_sender x (pick v.hosts x).body m.emission) same.0
+    ∙ ap (λ (x : Host). at_sender x (pick v.hosts x).body wire m.emission) same.0)
 sending_shows h moment v step host n m e there = absurd (none-some (host, n) e)
 
 -- the sender of a built segment, if it is there
-sender_shows : (v : World tcp_shape) (me : EndpointId) (m : Emission) (e : Endpoint) → m.is_reset_reply ≡ false → m.sender.number ≡ me.number
-    → find v.hosts me ≡ Some e → at_sender me.host (pick v.hosts me.host).body m ≡ Some (touched v me (sending_of m))
-sender_shows v me m e plain number there =
-    ap (λ (b : Bool). if b then None else at_place me.host (pick v.hosts me.host).body (sending_of m) m.sender.number) plain
-    ∙ ap (at_place me.host (pick v.hosts me.host).body (sending_of m)) number
-    ∙ ap (option_map (λ (e : Endpoint). record { host = me.host; place = me.number; event = sending_of m; before = view_of e })) there
-    ∙ ap (λ (o : Option Endpoint). Some (record { host = me.host; place = me.number; event = sending_of m; before = option_map_or view_of o unborn }))
+sender_shows : (v : World tcp_shape) (me : EndpointId) (wire : Wire) (m : Emission) (e : Endpoint) → m.is_reset_reply ≡ false → m.sender.number ≡ me.number
+    → find v.hosts me ≡ Some e → at_sender me.host (pick v.hosts me.host).body wire m ≡ Some (touched v me (sending_of wire m))
+sender_shows v me wire m e plain number there =
+    ap (λ (b : Bool). if b then None else at_place me.host (pick v.hosts me.host).body (sending_of wire m) m.sender.number) plain
+    ∙ ap (at_place me.host (pick v.hosts me.host).body (sending_of wire m)) number
+    ∙ ap (option_map (λ (e : Endpoint). record { host = me.host; place = me.number; event = sending_of wire m; before = view_of e })) there
+    ∙ ap (λ (o : Option Endpoint). Some (record { host = me.host; place = me.number; event = sending_of wire m; before = option_map_or view_of o unborn }))
     (sym there)
 
 module _ (t : Trace) (w : Witness) (slack : ℕ) (given : t.header.slack ≡ Some slack)
@@ -298,11 +298,11 @@ module _ (t : Trace) (w : Witness) (slack : ℕ) (given : t.header.slack ≡ Som
       → MereAt j n → SendsMere j y
   mere_sent j y is host n sending m =
       record {
-        event = sending_of sent.made.emission;
+        event = sending_of shown.0 sent.made.emission;
         shows =
-            sending_shows t.header y.moment (known_before t w j).model y.step host n sent.made sending sent.there
-            ∙ ap (λ (x : Host). at_sender x (pick (known_before t w j).model.hosts x).body sent.made.emission) here
-            ∙ sender_shows (known_before t w j).model me sent.made.emission f.0 (ap (λ (e : Emission). e.is_reset_reply) built)
+            shown.1
+            ∙ ap (λ (x : Host). at_sender x (pick (known_before t w j).model.hosts x).body shown.0 sent.made.emission) here
+            ∙ sender_shows (known_before t w j).model me shown.0 sent.made.emission f.0 (ap (λ (e : Emission). e.is_reset_reply) built)
             (ap (λ (e : Emission). e.sender.number) built) f.1;
         counts = sent.counts ∙ counted_there;
       }
@@ -312,6 +312,10 @@ module _ (t : Trace) (w : Witness) (slack : ℕ) (given : t.header.slack ≡ Som
 
       sent : Sent t.header slack (length w.steps) (act_at t w) (known_before t w) r j y host n
       sent = sent_was_built t.header slack (length w.steps) (act_at t w) (known_before t w) r j y host n (within t w j y is) is sending
+
+      shown : (wire : Wire) × ((observe t.header y.moment (known_before t w j).model y.step).touched
+          ≡ at_sender host (pick (known_before t w j).model.hosts host).body wire sent.made.emission)
+      shown = sending_shows t.header y.moment (known_before t w j).model y.step host n sent.made sending sent.there
 
       b : MereBuilt m.place
       b = mere_built m.place m.builds
@@ -339,19 +343,19 @@ module _ (t : Trace) (w : Witness) (slack : ℕ) (given : t.header.slack ≡ Som
       act_same : sent.was.act ≡ b.act
       act_same = same_Some sent.was.act b.act (sym sent.was.is ∙ ap (act_at t w) same ∙ b.is)
 
-      is_built : Some sent.made.emission ≡ Some (emission_of (record { host = me.host; number = me.number }) b.endpoint b.plan)
+      is_built : Some sent.made.emission ≡ Some (emission_of (record { host = me.host; number = me.number }) b.endpoint b.plan b.act.moment)
       is_built =
           let k = known_before t w m.place in
           let body = (pick k.model.hosts me.host).body in
-          let content = subst (λ (q : ℕ). made_by (known_before t w q).model b.act.step ≡ Some sent.made.emission) same
-          (subst (λ (x : Stamped tcp_shape). made_by (known_before t w sent.was.place).model x.step ≡ Some sent.made.emission) act_same sent.content) in
+          let content = subst (λ (q : ℕ). made_by b.act.moment (known_before t w q).model b.act.step ≡ Some sent.made.emission) same
+          (subst (λ (x : Stamped tcp_shape). made_by x.moment (known_before t w sent.was.place).model x.step ≡ Some sent.made.emission) act_same sent.content) in
           sym content
-          ∙ ap (made_by k.model) b.step
-          ∙ ap (λ (o : Option ℕ). option_map_or (made_at me.host body b.plan) o None) b.ports
-          ∙ ap (option_map (λ (e : Endpoint). emission_of (record { host = me.host; number = me.number }) e b.plan)) b.there
+          ∙ ap (made_by b.act.moment k.model) b.step
+          ∙ ap (λ (o : Option ℕ). option_map_or (made_at me.host b.act.moment body b.plan) o None) b.ports
+          ∙ ap (option_map (λ (e : Endpoint). emission_of (record { host = me.host; number = me.number }) e b.plan b.act.moment)) b.there
 
-      built : sent.made.emission ≡ emission_of (record { host = me.host; number = me.number }) b.endpoint b.plan
-      built = same_Some sent.made.emission (emission_of (record { host = me.host; number = me.number }) b.endpoint b.plan) is_built
+      built : sent.made.emission ≡ emission_of (record { host = me.host; number = me.number }) b.endpoint b.plan b.act.moment
+      built = same_Some sent.made.emission (emission_of (record { host = me.host; number = me.number }) b.endpoint b.plan b.act.moment) is_built
 
       counted_there : counts_by t.header slack (length w.steps) (act_at t w) (known_before t w) r (known_before t w sent.was.place) sent.was.act ≡ true
       counted_there =

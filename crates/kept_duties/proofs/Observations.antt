@@ -211,7 +211,7 @@ built_change_sends h moment w (At g (Sends line n wire)) host number may e =
     let both = none_both ((tcp h).out_rules wire p.0.emission) (just rules.NotMade p.0.sent) p.2 in
     let same = some_pair_parts g host n number e in (
       ap (λ o. (on o unseen (λ (m : Made Emission). record unseen {
-        touched = at_sender g (pick w.hosts g).body m.emission;
+        touched = at_sender g (pick w.hosts g).body wire m.emission;
         built_change = built_change.Sends n;
       })).built_change) p.1 ∙ ap built_change.Sends same.1,
       subst (λ (x : Host). Unsent w x number) same.0
@@ -310,17 +310,18 @@ inbox_from h moment w (At g d) host q m is =
     host_step (Answers line) at = waits_settled w (At g (Answers line)) g line q s.inbox m (λ at. inr (m, at)) at
 
 -- the segment that a step builds
-abbrev pub made_by : World tcp_shape → Step tcp_shape → Option Emission
-made_by w (At g (Makes m)) = act_makes g (pick w.hosts g).body (acts.Makes m)
-made_by w (At g (Answers line)) = on (waiting line (pick w.hosts g).inbox) None (λ e. act_makes g (pick w.hosts g).body (acts.Resets e))
-made_by w step = None
+abbrev pub made_by : (moment : ℕ) → World tcp_shape → Step tcp_shape → Option Emission
+made_by moment w (At g (Makes m)) = act_makes g moment (pick w.hosts g).body (acts.Makes m)
+made_by moment w (At g (Answers line)) =
+    on (waiting line (pick w.hosts g).inbox) None (λ e. act_makes g moment (pick w.hosts g).body (acts.Resets e))
+made_by moment w step = None
 
 -- a built segment after a step: it was built then, or it was there before; and it isn't sent if it wasn't before, and
 -- isn't sent then
-pub record IsNew (w : World tcp_shape) (step : Step tcp_shape) (host : Host) (n : ℕ) (m : Made Emission) : Type 0 where
+pub record IsNew (moment : ℕ) (w : World tcp_shape) (step : Step tcp_shape) (host : Host) (n : ℕ) (m : Made Emission) : Type 0 where
   pub built : builds step ≡ Some host
   pub number : n ≡ suc w.count
-  pub content : made_by w step ≡ Some m.emission
+  pub content : made_by moment w step ≡ Some m.emission
 
 pub record WasMade (w : World tcp_shape) (step : Step tcp_shape) (host : Host) (n : ℕ) (m : Made Emission) : Type 0 where
   pub before : Made Emission
@@ -328,20 +329,20 @@ pub record WasMade (w : World tcp_shape) (step : Step tcp_shape) (host : Host) (
   pub same : m.emission ≡ before.emission
   pub unsent : m.sent ≡ false → (before.sent ≡ false) × (sends step ≡ Some (host, n) → ⊥)
 
-abbrev pub IsMade : World tcp_shape → Step tcp_shape → Host → (n : ℕ) → Made Emission → Type 0
-IsMade w step host n m = IsNew w step host n m ⊎ WasMade w step host n m
+abbrev pub IsMade : (moment : ℕ) → World tcp_shape → Step tcp_shape → Host → (n : ℕ) → Made Emission → Type 0
+IsMade moment w step host n m = IsNew moment w step host n m ⊎ WasMade w step host n m
 
 made_new : (h : Header) (moment : ℕ) (w : World tcp_shape) (step : Step tcp_shape) (g : Host) (act : Act) (n : ℕ) (m : Made Emission)
-    → builds step ≡ Some g → made_by w step ≡ act_makes g (pick w.hosts g).body act
-    → (lookup (nat_eq n) (pick w.hosts g).made ≡ Some m → IsMade w step g n m)
-    → lookup (nat_eq n) (act_made (tcp h) g moment (suc w.count) (pick w.hosts g) act) ≡ Some m → IsMade w step g n m
+    → builds step ≡ Some g → made_by moment w step ≡ act_makes g moment (pick w.hosts g).body act
+    → (lookup (nat_eq n) (pick w.hosts g).made ≡ Some m → IsMade moment w step g n m)
+    → lookup (nat_eq n) (act_made (tcp h) g moment (suc w.count) (pick w.hosts g) act) ≡ Some m → IsMade moment w step g n m
 made_new h moment w step g act n m built makes old is =
-    on_cases (λ es. lookup (nat_eq n) es ≡ Some m → IsMade w step g n m) ((tcp h).act_makes g moment (pick w.hosts g).body act) (pick w.hosts g).made
+    on_cases (λ es. lookup (nat_eq n) es ≡ Some m → IsMade moment w step g n m) ((tcp h).act_makes g moment (pick w.hosts g).body act) (pick w.hosts g).made
     (λ e. insert_entry nat_eq (pick w.hosts g).made (suc w.count) (unsent e)) old
     (λ e there at. by e there (nat_eq n (suc w.count)) refl (sym (lookup_insert n (suc w.count) (unsent e) (pick w.hosts g).made) ∙ at)) is
   where
-    by : (e : Emission) → act_makes g (pick w.hosts g).body act ≡ Some e → (b : Bool) → nat_eq n (suc w.count) ≡ b
-        → cond b (Some (unsent e)) (lookup (nat_eq n) (pick w.hosts g).made) ≡ Some m → IsMade w step g n m
+    by : (e : Emission) → act_makes g moment (pick w.hosts g).body act ≡ Some e → (b : Bool) → nat_eq n (suc w.count) ≡ b
+        → cond b (Some (unsent e)) (lookup (nat_eq n) (pick w.hosts g).made) ≡ Some m → IsMade moment w step g n m
     by e there true same at = inl (record {
       built = built;
       number = grind (arith, nat_tests, same);
@@ -349,15 +350,15 @@ made_new h moment w step g act n m built makes old is =
     })
     by e there false differs at = old at
 
-made_sent : (w : World tcp_shape) (g : Host) (line number : ℕ) (wire : Wire) (n : ℕ) (m : Made Emission)
-    → lookup (nat_eq n) (made_gone_out number (pick w.hosts g).made) ≡ Some m → IsMade w (At g (Sends line number wire)) g n m
-made_sent w g line number wire n m is = go (lookup (nat_eq number) made) refl is
+made_sent : (moment : ℕ) (w : World tcp_shape) (g : Host) (line number : ℕ) (wire : Wire) (n : ℕ) (m : Made Emission)
+    → lookup (nat_eq n) (made_gone_out number (pick w.hosts g).made) ≡ Some m → IsMade moment w (At g (Sends line number wire)) g n m
+made_sent moment w g line number wire n m is = go (lookup (nat_eq number) made) refl is
   where
     made : List (ℕ × Made Emission)
     made = (pick w.hosts g).made
 
     by : (x : Made Emission) → lookup (nat_eq number) made ≡ Some x → (b : Bool) → nat_eq n number ≡ b
-        → cond b (Some (gone_out x)) (lookup (nat_eq n) made) ≡ Some m → IsMade w (At g (Sends line number wire)) g n m
+        → cond b (Some (gone_out x)) (lookup (nat_eq n) made) ≡ Some m → IsMade moment w (At g (Sends line number wire)) g n m
     by x there true same at =
         let e : n ≡ number = grind (arith, nat_tests, same) in
         let out : gone_out x ≡ m = same_Some (gone_out x) m at in
@@ -375,7 +376,7 @@ made_sent w g line number wire n m is = go (lookup (nat_eq number) made) refl is
     })
 
     go : (o : Option (Made Emission)) → lookup (nat_eq number) made ≡ o
-        → lookup (nat_eq n) (on o made (λ x. insert_entry nat_eq made number (gone_out x))) ≡ Some m → IsMade w (At g (Sends line number wire)) g n m
+        → lookup (nat_eq n) (on o made (λ x. insert_entry nat_eq made number (gone_out x))) ≡ Some m → IsMade moment w (At g (Sends line number wire)) g n m
     go None there at = inr (record {
       before = m;
       there = at;
@@ -384,23 +385,23 @@ made_sent w g line number wire n m is = go (lookup (nat_eq number) made) refl is
     })
     go (Some x) there at = by x there (nat_eq n number) refl (sym (lookup_insert n number (gone_out x) made) ∙ at)
 
-made_still : (w : World tcp_shape) (step : Step tcp_shape) (host : Host) (n : ℕ) (m : Made Emission) → (sends step ≡ Some (host, n) → ⊥)
-    → lookup (nat_eq n) (pick w.hosts host).made ≡ Some m → IsMade w step host n m
-made_still w step host n m not is = inr (record { before = m; there = is; same = refl; unsent = λ no. (no, not) })
+made_still : (moment : ℕ) (w : World tcp_shape) (step : Step tcp_shape) (host : Host) (n : ℕ) (m : Made Emission) → (sends step ≡ Some (host, n) → ⊥)
+    → lookup (nat_eq n) (pick w.hosts host).made ≡ Some m → IsMade moment w step host n m
+made_still moment w step host n m not is = inr (record { before = m; there = is; same = refl; unsent = λ no. (no, not) })
 
 pub made_from : (h : Header) (moment : ℕ) (w : World tcp_shape) (step : Step tcp_shape) (host : Host) (n : ℕ) (m : Made Emission)
-    → lookup (nat_eq n) (pick (after (tcp h) moment w step).hosts host).made ≡ Some m → IsMade w step host n m
-made_from h moment w (Begin line thread call) host n m is = made_still w (Begin line thread call) host n m (λ e. none-some _ e) is
-made_from h moment w (Finish line thread answer) host n m is = made_still w (Finish line thread answer) host n m (λ e. none-some _ e) is
+    → lookup (nat_eq n) (pick (after (tcp h) moment w step).hosts host).made ≡ Some m → IsMade moment w step host n m
+made_from h moment w (Begin line thread call) host n m is = made_still moment w (Begin line thread call) host n m (λ e. none-some _ e) is
+made_from h moment w (Finish line thread answer) host n m is = made_still moment w (Finish line thread answer) host n m (λ e. none-some _ e) is
 made_from h moment w (Effect thread answer) host n m is =
-    made_still w (Effect thread answer) host n m (λ e. none-some _ e)
+    made_still moment w (Effect thread answer) host n m (λ e. none-some _ e)
     (sym (effect_same (λ k. lookup (nat_eq n) k.made) (λ k b. refl) h moment w thread answer host) ∙ is)
 made_from h moment w (At g d) host n m is =
     with_cases w.hosts g (host_step_after (tcp h) g moment (suc w.count) (pick w.hosts (other g)).wire (pick w.hosts g) d)
-    (λ x k. lookup (nat_eq n) k.made ≡ Some m → IsMade w (At g d) x n m) (host_step d) (elsewhere d) host is
+    (λ x k. lookup (nat_eq n) k.made ≡ Some m → IsMade moment w (At g d) x n m) (host_step d) (elsewhere d) host is
   where
-    elsewhere : (d : HostStep tcp_shape) → lookup (nat_eq n) (pick w.hosts (other g)).made ≡ Some m → IsMade w (At g d) (other g) n m
-    elsewhere d at = made_still w (At g d) (other g) n m (λ e. apart g (sends_here d e)) at
+    elsewhere : (d : HostStep tcp_shape) → lookup (nat_eq n) (pick w.hosts (other g)).made ≡ Some m → IsMade moment w (At g d) (other g) n m
+    elsewhere d at = made_still moment w (At g d) (other g) n m (λ e. apart g (sends_here d e)) at
       where
         apart : (x : Host) → x ≡ other x → ⊥
         apart Zero e = cc
@@ -410,25 +411,25 @@ made_from h moment w (At g d) host n m is =
         sends_here (Sends line number wire) e = (some_pair_parts g (other g) number n e).0
         sends_here d e = absurd (none-some (other g, n) e)
 
-    still : (d : HostStep tcp_shape) → (sends (At g d) ≡ Some (g, n) → ⊥) → lookup (nat_eq n) (pick w.hosts g).made ≡ Some m → IsMade w (At g d) g n m
-    still d not at = made_still w (At g d) g n m not at
+    still : (d : HostStep tcp_shape) → (sends (At g d) ≡ Some (g, n) → ⊥) → lookup (nat_eq n) (pick w.hosts g).made ≡ Some m → IsMade moment w (At g d) g n m
+    still d not at = made_still moment w (At g d) g n m not at
 
     host_step : (d : HostStep tcp_shape)
         → lookup (nat_eq n) (host_step_after (tcp h) g moment (suc w.count) (pick w.hosts (other g)).wire (pick w.hosts g) d).made ≡ Some m
-        → IsMade w (At g d) g n m
+        → IsMade moment w (At g d) g n m
     host_step (Does x) at = still (Does x) (λ e. none-some _ e) at
     host_step (Expires line x) at = still (Expires line x) (λ e. none-some _ e) at
     host_step (Makes x) at = made_new h moment w (At g (Makes x)) g ((tcp h).making x) n m refl refl (still (Makes x) (λ e. none-some _ e)) at
-    host_step (Sends line number wire) at = made_sent w g line number wire n m at
+    host_step (Sends line number wire) at = made_sent moment w g line number wire n m at
     host_step (Gets line copied wire) at = still (Gets line copied wire) (λ e. none-some _ e) at
     host_step (Hears line wire) at = still (Hears line wire) (λ e. none-some _ e) at
     host_step (Takes line how) at = still (Takes line how) (λ e. none-some _ e) at
     host_step (Drops line) at = still (Drops line) (λ e. none-some _ e) at
     host_step (Answers line) at =
-        on_cases (λ es. lookup (nat_eq n) es ≡ Some m → IsMade w (At g (Answers line)) g n m) (waiting line (pick w.hosts g).inbox) (pick w.hosts g).made
+        on_cases (λ es. lookup (nat_eq n) es ≡ Some m → IsMade moment w (At g (Answers line)) g n m) (waiting line (pick w.hosts g).inbox) (pick w.hosts g).made
         (λ e. act_made (tcp h) g moment (suc w.count) (pick w.hosts g) ((tcp h).answers e)) (still (Answers line) (λ e. none-some _ e))
         (λ e there. made_new h moment w (At g (Answers line)) g ((tcp h).answers e) n m refl
-        (ap (λ o. on o None (λ e. act_makes g (pick w.hosts g).body (acts.Resets e))) there) (still (Answers line) (λ e. none-some _ e))) at
+        (ap (λ o. on o None (λ e. act_makes g moment (pick w.hosts g).body (acts.Resets e))) there) (still (Answers line) (λ e. none-some _ e))) at
 
 -- how many segments were built
 pub count_after : (h : Header) (moment : ℕ) (w : World tcp_shape) (step : Step tcp_shape)

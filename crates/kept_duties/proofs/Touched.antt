@@ -53,7 +53,8 @@ use Rattle.spec_duties.specs.Resent.{is_resent, is_resent_beyond}
 use Rattle.spec_duties.specs.Observations.{observe_accept, at_drop, at_place, at_ports, at_sender, at_target, observe_call, observe_close, observe_effect}
 use Rattle.spec_duties.specs.Observations.{is_done, observe_other, processing_of, sending_of, observe, unseen, view_in}
 use Rattle.spec_duties.specs.Views.{unborn, view_of}
-use Rattle.spec_duties.specs.Watching.{Duties, brought_by, built_by, counts_now, duty_rules, judged_lates}
+use Rattle.spec_duties.specs.Strict.{brought_by}
+use Rattle.spec_duties.specs.Watching.{Duties, built_by, counts_now, duty_rules, judged_lates}
 use Rattle.spec_duties.specs.Watching.{listener_closed, owed_by, owed_table_after, sends_in_excess, sent_by}
 use Rattle.spec_duties.specs.Watching.{answer_rules, touched_rules}
 use Rattle.spec_duties.specs.declared.events.Event.{Event}
@@ -146,13 +147,13 @@ next_before w host =
     sym (ap (λ (o : Option Endpoint). option_map_or view_of o unborn)
     (slice_get_past (pick w.hosts host).body.endpoints (length (pick w.hosts host).body.endpoints) (omega arith)))
 
-sender_before : (w : World tcp_shape) (step : Step tcp_shape) (host : Host) (m : Emission) → StepDoes step host (sending_of m)
-    → AsBefore w step (at_sender host (pick w.hosts host).body m)
-sender_before w step host m does = by m.is_reset_reply
+sender_before : (w : World tcp_shape) (step : Step tcp_shape) (host : Host) (wire : Wire) (m : Emission) → StepDoes step host (sending_of wire m)
+    → AsBefore w step (at_sender host (pick w.hosts host).body wire m)
+sender_before w step host wire m does = by m.is_reset_reply
   where
-    by : (b : Bool) → AsBefore w step (if b then None else at_place host (pick w.hosts host).body (sending_of m) m.sender.number)
+    by : (b : Bool) → AsBefore w step (if b then None else at_place host (pick w.hosts host).body (sending_of wire m) m.sender.number)
     by true = tt
-    by false = place_before w step host (sending_of m) m.sender.number does (λ p e. absurd cc)
+    by false = place_before w step host (sending_of wire m) m.sender.number does (λ p e. absurd cc)
 
 target_before : (w : World tcp_shape) (host : Host) (line : ℕ) (how : TakeChoice) (m : Emission) → waiting line (pick w.hosts host).inbox ≡ Some m
     → (t : Taker) → taker (pick w.hosts host).body m ≡ t → AsBefore w (At host (Takes line how)) (at_target host (pick w.hosts host).body m t)
@@ -255,7 +256,7 @@ as_before h moment w (At host (Makes m)) =
     (λ i at p e. let same : m ≡ p = cc in ap (λ (q : SegmentPlan). place_of (pick w.hosts host).body q.lport q.rport) (sym same) ∙ at)
 as_before h moment w (At host (Sends line number wire)) =
     on_cases (λ (s : Observation). AsBefore w (At host (Sends line number wire)) s.touched) (lookup (nat_eq number) (pick w.hosts host).made) unseen _ tt
-    (λ m is. sender_before w (At host (Sends line number wire)) host m.emission (line, number, wire, refl))
+    (λ m is. sender_before w (At host (Sends line number wire)) host wire m.emission (line, number, wire, refl))
 as_before h moment w (At host (Gets line copied wire)) = tt
 as_before h moment w (At host (Hears line wire)) = tt
 as_before h moment w (At host (Takes line how)) =

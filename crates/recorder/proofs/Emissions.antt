@@ -15,8 +15,9 @@ same_parts a b m h o y = λ i. record {
   rport = h.1 i;
   seq = h.2 i;
   ack_seq = h.3 i;
-  flags = h.4 i;
-  window = h.5 i;
+  raised = h.4 i;
+  flags = h.5 i;
+  window = h.6 i;
   mss = o.0 i;
   shift = o.1 i;
   scaled = o.2 i;
@@ -40,6 +41,7 @@ parts_same a b e = (
     ap (λ (x : Emission). x.rport) e,
     ap (λ (x : Emission). x.seq) e,
     ap (λ (x : Emission). x.ack_seq) e,
+    ap (λ (x : Emission). x.raised) e,
     ap (λ (x : Emission). x.flags) e,
     ap (λ (x : Emission). x.window) e,
   ),

@@ -72,7 +72,7 @@ SameMark a b =
 abbrev pub SameHead : Emission → Emission → Type 0
 SameHead a b =
     (a.lport ≡ b.lport) × (a.rport ≡ b.rport) × (a.seq ≡ b.seq) ×
-    (a.ack_seq ≡ b.ack_seq) × (a.flags ≡ b.flags) × (a.window ≡ b.window)
+    (a.ack_seq ≡ b.ack_seq) × (a.raised ≡ b.raised) × (a.flags ≡ b.flags) × (a.window ≡ b.window)
 
 abbrev pub SameOptions : Emission → Emission → Type 0
 SameOptions a b = (a.mss ≡ b.mss) × (a.shift ≡ b.shift) × (a.scaled ≡ b.scaled) × (a.scale ≡ b.scale)

@@ -36,6 +36,7 @@ fn has_same_head(a: &Emission, b: &Emission) -> bool
         && a.rport == b.rport
         && a.seq == b.seq
         && a.ack_seq == b.ack_seq
+        && a.raised == b.raised
         && a.flags == b.flags
         && a.window == b.window
 }

@@ -15,6 +15,7 @@ use Rattle.case_forms.specs.declared.calls.Call.TheVariants as calls
 use Rattle.case_forms.specs.declared.calls.Host.{Host}
 use Rattle.case_forms.specs.declared.steps.TakeChoice.{TakeChoice}
 use Rattle.case_forms.specs.declared.trace.Header.{Header}
+use Rattle.case_forms.specs.declared.trace.Wire.{Wire}
 use Rattle.case_forms.specs.declared.version.Version.{Version}
 use Rattle.verdict.specs.declared.rule.Rule.{Rule}
 use Rattle.spec_network.specs.HostRules.{aim_of}
@@ -30,6 +31,7 @@ use Rattle.spec_tcp.specs.declared.endpoint.SocketTarget.{SocketTarget}
 use Rattle.spec_tcp.specs.declared.endpoint.SocketTarget.TheVariants.{ListenerAt, EndpointAt}
 use Rattle.spec_tcp.specs.HostTcp.{HostTcp, has_ended, place_of, socket_target, queue_of}
 use Rattle.spec_tcp.specs.Machine.{tcp, tcp_shape, aim}
+use Rattle.spec_tcp.specs.Wire.{is_before_text}
 use Rattle.spec_duties.specs.Views.{View, view_of, unborn}
 use Rattle.spec_duties.specs.Events as events
 use Rattle.spec_duties.specs.Events.{Event}
@@ -83,12 +85,18 @@ at_ports host b event lport rport = option_map_or (at_place host b event) (place
 abbrev pub at_next : Host → HostTcp → Event → Option TouchedEndpoint
 at_next host b event = Some (record { host = host; place = length b.endpoints; event = event; before = unborn })
 
--- the sender of a segment; a reset in answer to a segment has none
-abbrev pub sending_of : Emission → Event
-sending_of m = events.Sends (record { flags = m.flags; pos = m.pos; length = segment_length m })
+-- the sender of a segment, which its line shows like this; a reset in answer to a segment has none
+abbrev pub sending_of : Wire → Emission → Event
+sending_of wire m =
+    events.Sends (record {
+      flags = m.flags;
+      pos = m.pos;
+      length = segment_length m;
+      before_text = is_before_text wire m;
+    })
 
-abbrev pub at_sender : Host → HostTcp → Emission → Option TouchedEndpoint
-at_sender host b m = if m.is_reset_reply then None else at_place host b (sending_of m) m.sender.number
+abbrev pub at_sender : Host → HostTcp → Wire → Emission → Option TouchedEndpoint
+at_sender host b wire m = if m.is_reset_reply then None else at_place host b (sending_of wire m) m.sender.number
 
 -- the target of a segment that is processed; a listener creates an endpoint
 abbrev pub processing_of : Emission → Event
@@ -178,7 +186,7 @@ observe_host_step h moment w fresh host s (network.Makes m) =
 observe_host_step h moment w fresh host s (network.Sends line number wire) =
     on (lookup (nat_eq number) s.made) unseen
     (λ m. record unseen {
-      touched = at_sender host s.body m.emission;
+      touched = at_sender host s.body wire m.emission;
       built_change = built_change.Sends number;
       syn_change = syn_sent h.version m.emission wire.bytes;
     })

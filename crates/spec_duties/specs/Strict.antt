@@ -71,6 +71,24 @@ unbuilt_answer_after event before moment acknowledged answered since =
 abbrev pub taken_over : Event → (since : Option ℕ) → Option ℕ
 taken_over event since = if builds_answer event then since else None
 
+-- since when the acknowledgment is owed that a segment brings which is sent
+abbrev pub brought_by : Option Unsent → Option ℕ
+brought_by sent = option_map_or (λ u. u.acknowledge) sent None
+
+-- its line shows the acknowledgment number from before the text that it was to acknowledge
+abbrev pub is_sent_before_text : Event → Bool
+is_sent_before_text (Sends s) = s.before_text
+is_sent_before_text event = false
+
+-- the earlier of two moments
+abbrev pub earlier_of : (a b : Option ℕ) → Option ℕ
+earlier_of None b = b
+earlier_of (Some moment) b = Some (option_map_or (min moment) b moment)
+
+-- then the endpoint owes again what that segment took over
+abbrev pub given_back : Event → (brought since : Option ℕ) → Option ℕ
+given_back event brought since = if is_sent_before_text event then earlier_of brought since else since
+
 -- a reset that is built in TIME-WAIT need not be sent: a SYN may reopen the connection (RFC 9293, 3.10.7.4)
 abbrev pub is_spared : Event → (before : View) → Bool
 is_spared (Builds m) before = m.flags.rst && is_time_wait before.state
@@ -153,19 +171,25 @@ strict_probe_after event before after moment since =
 
 -- ---- all of them
 
--- what is owed after a step at an endpoint; `acknowledged`: when it last sent a segment with ACK; `keeps_alive`: it
--- sends a keep-alive
+-- it is a keep-alive
+abbrev pub sends_keep_alive : Option Unsent → Bool
+sends_keep_alive sent = option_map_or (λ u. u.keeps_alive) sent false
+
+-- what is owed after a step at an endpoint; `acknowledged`: when it last sent a segment with ACK; `sent`: the segment
+-- that it sends
 abbrev pub strict_after : Sampling → Event → (before after : View) → (moment : ℕ) → (acknowledged : Option ℕ)
-    → (keeps_alive : Bool) → StrictOwed → StrictOwed
-strict_after s event before after moment acknowledged keeps_alive o = record {
-  acknowledge = unbuilt_answer_after event before moment acknowledged o.answered o.acknowledge;
+    → (sent : Option Unsent) → StrictOwed → StrictOwed
+strict_after s event before after moment acknowledged sent o = record {
+  acknowledge =
+      given_back event (brought_by sent)
+      (unbuilt_answer_after event before moment acknowledged o.answered o.acknowledge);
   retransmit = strict_retransmit_after event before after moment o.retransmit;
   probe = strict_probe_after event before after moment o.probe;
   restarted = restarted_after event before after moment o.restarted;
   timed = timed_after s event before after o.timed;
   widest = max o.widest after.snd_wnd;
   answered = answered_after event moment o.answered;
-  kept_alive = kept_alive_after keeps_alive moment o.kept_alive;
+  kept_alive = kept_alive_after (sends_keep_alive sent) moment o.kept_alive;
 }
 
 -- which of it is late; a CLOSED endpoint owes no more than a reset

@@ -23,7 +23,7 @@ use Rattle.spec_duties.specs.Credits.{spent}
 use Rattle.spec_duties.specs.Acknowledge.{acknowledge_due}
 use Rattle.spec_duties.specs.Owed.{Lates, Owed, nothing, lates_of, late_rules, owed_after}
 use Rattle.spec_duties.specs.Sampling.{Sampling, is_sample_due}
-use Rattle.spec_duties.specs.Strict.{StrictOwed, Unsent, is_spared, nothing_strict, strict_after, strict_lates}
+use Rattle.spec_duties.specs.Strict.{StrictOwed, Unsent, brought_by, is_spared, nothing_strict, strict_after, strict_lates}
 use Rattle.spec_duties.specs.Strict.{taken_over, with_brought}
 use Rattle.spec_duties.specs.Dropped.{Droppable, Dropping}
 use Rattle.spec_duties.specs.Answering.{CallChange, Waits, is_answer_late, none_wait}
@@ -115,14 +115,6 @@ counts_now built = option_map_or (λ b. b.counts) built false
 abbrev pub sent_by : Duties → BuiltChange → Option Unsent
 sent_by d (built_change.Sends number) = waiting number d.unsent
 sent_by d it = None
-
--- it is a keep-alive
-abbrev pub sends_keep_alive : Option Unsent → Bool
-sends_keep_alive sent = option_map_or (λ u. u.keeps_alive) sent false
-
--- since when the acknowledgment is owed that it brings
-abbrev pub brought_by : Option Unsent → Option ℕ
-brought_by sent = option_map_or (λ u. u.acknowledge) sent None
 
 -- in version 6: it needs a credit, and its endpoint has none that is young enough
 abbrev pub lacks_credit : (slack : ℕ) → Duties → Host → (place : ℕ) → Unsent → Bool
@@ -243,7 +235,7 @@ abbrev pub strict_table_after : (after : View) → (moment : ℕ) → Duties →
 strict_table_after after moment d sent s t =
     with_host d.strict t.host
     (insert_entry nat_eq (pick d.strict t.host) t.place
-    (strict_after s t.event t.before after moment (owed_by d t.host t.place).acknowledged (sends_keep_alive sent)
+    (strict_after s t.event t.before after moment (owed_by d t.host t.place).acknowledged sent
     (strict_by d t.host t.place)))
 
 -- a segment that is built now takes over the acknowledgment that its endpoint owes

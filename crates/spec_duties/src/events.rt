@@ -10,6 +10,8 @@ pub struct Sending {
     pub pos: u64,
     /// How many positions it occupies (SEG.LEN).
     pub length: u128,
+    /// Whether its line shows the acknowledgment number from before the text that was taken as it was built.
+    pub before_text: bool,
 }
 
 /// What a step does at an endpoint.

@@ -55,6 +55,7 @@ emission host peer_at_send pos ack moment made wire = record {
   ack = ack;
   seq = wire.seg.seq;
   ack_seq = wire.seg.ack;
+  raised = 0;
   flags = made;
   window = wire.seg.window;
   payload = wire.seg.payload;

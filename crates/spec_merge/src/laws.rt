@@ -63,7 +63,7 @@ pub fn merged_books_have_the_consequences()
         (moment : ℕ) (host : Host)
         (m : SegmentPlan) →
         AreFirstSteps h first zeros ones (steps ++ record { moment = moment; step = At host (Makes m) } ∷ []) →
-        NewDataFits (world_at_end h steps) host m }
+        NewDataFits (world_at_end h steps) host moment m }
     ensures windows { (h : Header) (first : ℕ) (zeros ones : List TcpEntry) (steps : List (Stamped tcp_shape))
         (x : Stamped tcp_shape) →
         AreFirstSteps h first zeros ones (steps ++ x ∷ []) → WindowsFollow h x.moment (world_at_end h steps) x.step }

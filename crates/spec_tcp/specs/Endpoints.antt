@@ -3,6 +3,7 @@
 pub use Rattle.spec_tcp.specs.declared.endpoint.EndpointId.{EndpointId}
 pub use Rattle.spec_tcp.specs.declared.endpoint.Stream.{Stream}
 pub use Rattle.spec_tcp.specs.declared.endpoint.Windows.{Windows}
+pub use Rattle.spec_tcp.specs.declared.endpoint.TextTaken.{TextTaken}
 pub use Rattle.spec_tcp.specs.declared.endpoint.Fault.{Fault}
 pub use Rattle.spec_tcp.specs.declared.endpoint.Fault.TheVariants.{Refused, Reset, Timeout}
 pub use Rattle.spec_tcp.specs.declared.endpoint.Endpoint.{Endpoint}
@@ -38,6 +39,7 @@ new_endpoint lport rport listener state profile = record {
   stream = record { peer = None; accepted = []; ended = false; receive = received.empty; snd_una = 0 };
   transmissions = [];
   window = record { snd_wnd = 0; snd_wl1 = 0; snd_wl2 = 0; rcv_adv = 0 };
+  text = record { moment = 0; before = 0 };
   control = began profile;
   recover = 0;
   probe_due = false;

@@ -43,6 +43,7 @@ heard moment wire = record {
   ack = 0;
   seq = wire.seg.seq;
   ack_seq = wire.seg.ack;
+  raised = 0;
   flags = told_flags wire.seg;
   window = wire.seg.window;
   payload = take most_bytes wire.seg.payload;

@@ -69,15 +69,16 @@ act_after h me moment b (Resets m) = b
 act_after h me moment b (Expires x) = at_ports b x.lport x.rport (λ e. after_expiry e x.expired moment)
 act_after h me moment b (Recovers x) = at_ports b x.lport x.rport (λ e. after_recovery e x.cwnd x.ssthresh moment)
 
--- the segment that the endpoint at a place builds
-abbrev pub made_at : Host → HostTcp → SegmentPlan → ℕ → Option Emission
-made_at me b m i = option_map (λ e. emission_of (record { host = me; number = i }) e m) (slice_get b.endpoints i)
+-- the segment that the endpoint at a place builds at this moment
+abbrev pub made_at : Host → ℕ → HostTcp → SegmentPlan → ℕ → Option Emission
+made_at me moment b m i =
+    option_map (λ e. emission_of (record { host = me; number = i }) e m moment) (slice_get b.endpoints i)
 
 -- the segment that it builds
-abbrev pub act_makes : Host → HostTcp → Act → Option Emission
-act_makes me b (Makes m) = option_map_or (made_at me b m) (place_of b m.lport m.rport) None
-act_makes me b (Resets m) = Some (reset_of m)
-act_makes me b act = None
+abbrev pub act_makes : Host → ℕ → HostTcp → Act → Option Emission
+act_makes me moment b (Makes m) = option_map_or (made_at me moment b m) (place_of b m.lport m.rport) None
+act_makes me moment b (Resets m) = Some (reset_of m)
+act_makes me moment b act = None
 
 -- the target of a call
 abbrev pub aim : Call → Aim
@@ -122,7 +123,7 @@ tcp h = record {
   empty = empty;
   act_rules = act_rules h;
   act_after = act_after h;
-  act_makes = λ me moment b act. act_makes me b act;
+  act_makes = act_makes;
   does = λ x. Recovers x;
   expires = λ x. Expires x;
   making = λ m. Makes m;

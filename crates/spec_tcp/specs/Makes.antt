@@ -17,7 +17,7 @@ use Rattle.spec_tcp.specs.Endpoints.{EndpointId, Endpoint, Emission, rcv_nxt, is
 use Rattle.spec_tcp.specs.Calls.Close.{shut_down}
 use Rattle.spec_tcp.specs.Makes.Kind.{may_make, makes_nothing, is_bad_iss, given_shift, word_zero, seq_of}
 use Rattle.spec_tcp.specs.Makes.Payload.{making_length, has_new_bytes, is_bad_payload, is_bad_place}
-use Rattle.spec_tcp.specs.Makes.Edges.{is_bad_ack, own_window, is_beyond_offer, is_congesting}
+use Rattle.spec_tcp.specs.Makes.Edges.{is_bad_ack, raised_at, own_window, is_beyond_offer, is_congesting}
 
 -- the rules of building a segment, at the endpoint at these ports
 abbrev pub making_rules : Version → Endpoint → SegmentPlan → List (Rule × Bool)
@@ -27,10 +27,10 @@ making_rules v e m =
     ∷ (rules.Offered, is_beyond_offer e m) ∷ (rules.Congestion, is_congesting e m)
     ∷ (rules.Size, nat_lt e.control.values.smss m.len) ∷ []
 
--- the segment: the accepted bytes at its position, and the next position expected as its acknowledgment, both also as
--- numbers
-abbrev pub emission_of : EndpointId → Endpoint → SegmentPlan → Emission
-emission_of me e m = record {
+-- the segment at its moment: the accepted bytes at its position, and the next position expected as its acknowledgment,
+-- both also as numbers
+abbrev pub emission_of : EndpointId → Endpoint → SegmentPlan → ℕ → Emission
+emission_of me e m moment = record {
   sender = me;
   peer_at_send = e.stream.peer;
   lport = m.lport;
@@ -39,6 +39,7 @@ emission_of me e m = record {
   ack = if m.flags.ack then rcv_nxt e else 0;
   seq = seq_of (option_or e.iss m.iss) m.pos;
   ack_seq = if m.flags.ack then seq_of e.irs (rcv_nxt e) else word_zero;
+  raised = raised_at e m moment;
   flags = m.flags;
   window = m.window;
   payload = piece e.stream.accepted m.pos m.len;

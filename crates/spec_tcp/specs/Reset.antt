@@ -39,6 +39,7 @@ reset_of m = record {
   ack = 0;
   seq = if m.flags.ack then m.ack_seq else word_zero;
   ack_seq = number_of m.seq (segment_length m);
+  raised = 0;
   flags = record { ack = not m.flags.ack; rst = true; syn = false; fin = false };
   window = 0;
   payload = [];

@@ -1,10 +1,12 @@
 -- Segments sent and received, as bytes on the wire (RFC 9293, 3.1 and 3.4.2; RFC 7323, 2.2).
-use Rattle.std.specs.Prelude.{ℕ, ◌+◌, ◌==◌, nat_lt, min, Bool, true, false, not, ◌&&◌, ◌||◌, if◌then◌else◌, List, []}
+use Rattle.std.specs.Prelude.{ℕ, ◌+◌, ◌-◌, ◌==◌, nat_lt, min, Bool, true, false, not, ◌&&◌, ◌||◌, if◌then◌else◌, List, []}
 use Rattle.std.specs.Prelude.{◌∷◌}
 use Rattle.std.specs.Option.{option_map_or}
 use Rattle.segment.specs.Flags.{has_flag}
 use Rattle.segment.specs.declared.fields.Segment.{Segment}
 use Rattle.segment.specs.declared.flag.Flag.TheVariants.{Ack, Fin, Rst, Syn}
+use Rattle.seqno.specs.Numbers.{number_of}
+use Rattle.seqno.specs.declared.word.Word.{Word}
 use Rattle.case_forms.specs.Versions.{says_sender, scales}
 use Rattle.case_forms.specs.declared.steps.Flags.{Flags}
 use Rattle.case_forms.specs.declared.trace.Header.{Header}
@@ -26,9 +28,16 @@ same_flags s f =
 abbrev pub may_acknowledge : Version → Emission → Bool
 may_acknowledge v m = m.flags.ack || says_sender v && m.is_reset_reply
 
--- ACK is that of the built segment, and so is the number that is acknowledged
+-- the acknowledgment number is that of the built segment, or from version 6 on that from before the text which was taken
+-- at the moment of building: RFC 9293, 3.10.7.4, processes a segment's acknowledgment before its text
+abbrev pub acknowledges : Version → Word → Emission → Bool
+acknowledges version ack m =
+    same_word ack m.ack_seq
+    || says_sender version && nat_lt 0 m.raised && same_word (number_of ack m.raised) m.ack_seq
+
+-- a segment with ACK may have it, and its number; one without is built without
 abbrev pub ack_matches : Version → Segment → Emission → Bool
-ack_matches v s m = if has_flag s.flags Ack then may_acknowledge v m && same_word s.ack m.ack_seq else not m.flags.ack
+ack_matches v s m = if has_flag s.flags Ack then may_acknowledge v m && acknowledges v s.ack m else not m.flags.ack
 
 -- the fields are those of the built segment: the window of all except a reset in answer to a segment
 abbrev pub header_matches : Version → Segment → Emission → Bool
@@ -54,9 +63,16 @@ out_rules h wire m = (rules.BytesDiffer, not (matches_sent h wire m)) ∷ []
 abbrev pub sent_ack : Segment → Emission → Bool
 sent_ack s m = if m.is_reset_reply then has_flag s.flags Ack else m.flags.ack
 
--- on the wire it has its bytes, its MSS, its shift and the moment
+-- the line shows the acknowledgment number from before the text
+abbrev pub is_before_text : Wire → Emission → Bool
+is_before_text wire m = nat_lt 0 m.raised && not (same_word wire.seg.ack m.ack_seq)
+
+-- on the wire it has its bytes, the acknowledgment that they show, its MSS, its shift and the moment
 abbrev pub sent : ℕ → Wire → Emission → Emission
 sent moment wire m = record m {
+  ack = if is_before_text wire m then m.ack - m.raised else m.ack;
+  ack_seq = if is_before_text wire m then wire.seg.ack else m.ack_seq;
+  raised = 0;
   flags = record m.flags { ack = sent_ack wire.seg m };
   bytes = wire.bytes;
   mss = wire.seg.mss;

@@ -50,6 +50,16 @@ pub struct Windows {
     pub rcv_adv: u64,
 }
 
+/// When the text of a segment, or its FIN, last raised RCV.NXT. RFC 9293, 3.10.7.4, processes a segment's acknowledgment
+/// (fifth) before its text (seventh), so what is built at this moment may have been built in between.
+#[derive(Clone, Copy, Debug)]
+pub struct TextTaken {
+    /// The moment, in microseconds.
+    pub moment: u64,
+    /// RCV.NXT before the first text that raised it at this moment; 0 if none ever did.
+    pub before: u64,
+}
+
 /// Why an endpoint failed.
 #[derive(Clone, Copy, Debug)]
 pub enum Fault {
@@ -89,6 +99,7 @@ pub struct Endpoint {
     /// When each position was first built.
     pub transmissions: Transmissions,
     pub window: Windows,
+    pub text: TextTaken,
     pub control: Control,
     /// Outstanding positions below this one may be retransmitted.
     pub recover: u64,
@@ -141,6 +152,10 @@ impl Endpoint {
                 snd_wl1: 0,
                 snd_wl2: 0,
                 rcv_adv: 0,
+            },
+            text: TextTaken {
+                moment: 0,
+                before: 0,
             },
             control: Control::start(profile),
             recover: 0,
@@ -244,6 +259,9 @@ pub struct Emission {
     pub seq: Word,
     /// The acknowledgment number, 32 bits (SEG.ACK).
     pub ack_seq: Word,
+    /// How far the segments taken at the moment of building had raised RCV.NXT by then: before it is sent, it may still
+    /// have the acknowledgment number from before their text. 0 if it has none, or once it was sent.
+    pub raised: u64,
     pub flags: Flags,
     pub window: u16,
     /// Also in `bytes`, but never shared: rules compare the two.
@@ -286,6 +304,7 @@ impl Emission {
             ack: self.ack,
             seq: self.seq,
             ack_seq: self.ack_seq,
+            raised: self.raised,
             flags: self.flags,
             window: self.window,
             payload: self.payload.copy()?,

@@ -27,8 +27,8 @@ mod queue;
 
 pub use arrived::Arrived;
 pub use endpoint::{
-    Emission, Endpoint, EndpointId, Fault, Listener, Socket, SocketTarget, Stream, Windows, giver,
-    window_in,
+    Emission, Endpoint, EndpointId, Fault, Listener, Socket, SocketTarget, Stream, TextTaken,
+    Windows, giver, window_in,
 };
 pub use profile::profile_of;
 pub use queue::Queue;

@@ -147,23 +147,23 @@ piece_same v e m permitted =
       | inr high ↦ piece-forget e m.pos m.len high
     ]
 
-emission_same : (v : Version) (me : EndpointId) (e : Endpoint) (m : SegmentPlan) → first_broken (making_rules v e m) ≡ None
-    → emission_of me (forget_endpoint e) m ≡ emission_of me e m
-emission_same v me e m permitted = rw (rcv_nxt-forget e, piece_same v e m permitted) refl
+emission_same : (v : Version) (me : EndpointId) (e : Endpoint) (m : SegmentPlan) (moment : ℕ)
+    → first_broken (making_rules v e m) ≡ None → emission_of me (forget_endpoint e) m moment ≡ emission_of me e m moment
+emission_same v me e m moment permitted = rw (rcv_nxt-forget e, piece_same v e m permitted) refl
 
 -- the segment that is made is the same where it is permitted
 pub makes-forget : (h : Header) (me : Host) (moment : ℕ) (b : HostTcp) (m : SegmentPlan)
     → first_broken (act_rules h me moment b (Makes m)) ≡ None
-    → act_makes me (forget_body b) (Makes m) ≡ act_makes me b (Makes m)
+    → act_makes me moment (forget_body b) (Makes m) ≡ act_makes me moment b (Makes m)
 makes-forget h me moment b m permitted = rw (place-forget b m.lport m.rport) (by (place_of b m.lport m.rport) permitted)
   where
     at : (i : ℕ) (o : Option Endpoint) → first_broken (option_map_or (λ e. making_rules h.version e m) o ((rules.NoEndpoint, true) ∷ [])) ≡ None
-        → option_map (λ e. emission_of (record { host = me; number = i }) e m) (option_map forget_endpoint o)
-        ≡ option_map (λ e. emission_of (record { host = me; number = i }) e m) o
+        → option_map (λ e. emission_of (record { host = me; number = i }) e m moment) (option_map forget_endpoint o)
+        ≡ option_map (λ e. emission_of (record { host = me; number = i }) e m moment) o
     at i None p = refl
-    at i (Some e) p = rw (emission_same h.version (record { host = me; number = i }) e m p) refl
+    at i (Some e) p = rw (emission_same h.version (record { host = me; number = i }) e m moment p) refl
 
     by : (o : Option ℕ) → first_broken (option_map_or (λ e. making_rules h.version e m) (endpoint_at b o) ((rules.NoEndpoint, true) ∷ [])) ≡ None
-        → option_map_or (made_at me (forget_body b) m) o None ≡ option_map_or (made_at me b m) o None
+        → option_map_or (made_at me moment (forget_body b) m) o None ≡ option_map_or (made_at me moment b m) o None
     by None p = refl
     by (Some i) p = rw (slice_get-map forget_endpoint b.endpoints i) (at i (slice_get b.endpoints i) p)

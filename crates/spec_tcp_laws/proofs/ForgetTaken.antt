@@ -6,7 +6,7 @@ use Rattle.case_forms.specs.declared.trace.Header.{Header}
 use Rattle.case_forms.specs.declared.calls.State.{State}
 use Rattle.case_forms.specs.declared.calls.State.TheVariants as states
 use Rattle.streams.specs.Cells.{front}
-use Rattle.streams.specs.Received.{Receiving, is_ended}
+use Rattle.streams.specs.Received.{Receiving, is_ended, next}
 use Rattle.streams.specs.Transmissions.{once}
 use Rattle.streams.specs.Forgetting.{forgotten}
 use Rattle.streams.proofs.Covers.{covered-covered, get-covered}
@@ -18,7 +18,8 @@ use Rattle.case_forms.specs.States.{is_syn_sent}
 use Rattle.case_forms.specs.declared.steps.TakeChoice.{TakeChoice}
 use Rattle.spec_tcp.specs.Arrives.OtherStates.Ack.{is_new_ack, acknowledges_syn, acknowledged}
 use Rattle.spec_tcp.specs.Arrives.OtherStates.Fin.{keeps_fin}
-use Rattle.spec_tcp.specs.Arrives.OtherStates.Text.{kept_start, kept_bytes, receive_after, state_after_segment}
+use Rattle.spec_tcp.specs.Arrives.OtherStates.Text.{kept_start, kept_bytes, receive_after, text_after_segment}
+use Rattle.spec_tcp.specs.Arrives.OtherStates.Text.{state_after_segment}
 use Rattle.spec_tcp.specs.Arrives.OtherStates.Timers.{timeout_after_ack, timers_after_segment}
 use Rattle.spec_tcp.specs.Arrives.OtherStates.{taken}
 use Rattle.spec_tcp.specs.Arrives.OtherStates.Reset.{reset_fault, was_reset}
@@ -32,6 +33,19 @@ use Rattle.spec_tcp_laws.proofs.ForgetEffects.{Forgets, forgets}
 pub receive-forgets : (e : Endpoint) (how : TakeChoice) (m : Emission) → forgotten (receive_after (forget_endpoint e) how m) ≡ forgotten (receive_after e how m)
 receive-forgets e how m =
     rw (rcv_nxt-forget e) (kept_forgotten e.stream.receive (kept_start e m) (kept_bytes e how m) (keeps_fin e how m))
+
+-- how far it reaches then is not forgotten
+next-forgotten : (r : Receiving) → next (forgotten r) ≡ next r
+next-forgotten r = length-front-fade (suc r.delivered) r.taken
+
+next-forgets : (e : Endpoint) (how : TakeChoice) (m : Emission) → next (receive_after (forget_endpoint e) how m) ≡ next (receive_after e how m)
+next-forgets e how m =
+    sym (next-forgotten (receive_after (forget_endpoint e) how m)) ∙ (ap next (receive-forgets e how m) ∙ next-forgotten (receive_after e how m))
+
+-- when text last raised the next position is not forgotten
+text-forget : (e : Endpoint) (how : TakeChoice) (m : Emission) (moment : ℕ)
+    → text_after_segment (forget_endpoint e) how m moment ≡ text_after_segment e how m moment
+text-forget e how m moment = rw (next-forgets e how m, rcv_nxt-forget e) refl
 
 -- whether the peer's FIN was passed is not forgotten
 ended-forgotten : (r : Receiving) → is_ended (forgotten r) ≡ is_ended r
@@ -70,6 +84,7 @@ taken-forgets h how m moment e =
     rw (
       timers-forget h e how m moment,
       state-forget e how m,
+      text-forget e how m moment,
       receive-forgets e how m,
       snd_max-forget e,
       covered-covered 0 (snd_una - 1) (max snd_una m.ack - 1) e.stream.accepted (omega arith),

@@ -154,20 +154,20 @@ act_kept j h me moment b (Recovers x) =
     (recovery_kept (profile_of (header_by j h)) x.cwnd x.ssthresh moment)
 
 -- the segment that is made
-pub makes_same : (p : Profile) (me : Host) (b : HostTcp) (act : Act) → act_makes me (body_by p b) act ≡ act_makes me b act
-makes_same p me b (Calls call answer) = refl
-makes_same p me b (Takes how m) = refl
-makes_same p me b (Resets m) = refl
-makes_same p me b (Expires x) = refl
-makes_same p me b (Recovers x) = refl
-makes_same p me b (Makes m) = rw (place_by p b m.lport m.rport) (by (place_of b m.lport m.rport))
+pub makes_same : (p : Profile) (me : Host) (moment : ℕ) (b : HostTcp) (act : Act) → act_makes me moment (body_by p b) act ≡ act_makes me moment b act
+makes_same p me moment b (Calls call answer) = refl
+makes_same p me moment b (Takes how m) = refl
+makes_same p me moment b (Resets m) = refl
+makes_same p me moment b (Expires x) = refl
+makes_same p me moment b (Recovers x) = refl
+makes_same p me moment b (Makes m) = rw (place_by p b m.lport m.rport) (by (place_of b m.lport m.rport))
   where
     at : (i : ℕ) (o : Option Endpoint)
-        → option_map (λ e. emission_of (record { host = me; number = i }) e m) (option_map (endpoint_by p) o)
-        ≡ option_map (λ e. emission_of (record { host = me; number = i }) e m) o
+        → option_map (λ e. emission_of (record { host = me; number = i }) e m moment) (option_map (endpoint_by p) o)
+        ≡ option_map (λ e. emission_of (record { host = me; number = i }) e m moment) o
     at i None = refl
     at i (Some e) = refl
 
-    by : (o : Option ℕ) → option_map_or (made_at me (body_by p b) m) o None ≡ option_map_or (made_at me b m) o None
+    by : (o : Option ℕ) → option_map_or (made_at me moment (body_by p b) m) o None ≡ option_map_or (made_at me moment b m) o None
     by None = refl
     by (Some i) = rw (slice_get-map (endpoint_by p) b.endpoints i) (at i (slice_get b.endpoints i))

@@ -128,7 +128,7 @@ host_step_kept : (j : Judged) (h : Header) (me : Host) (moment fresh : ℕ) (far
 host_step_kept j h me moment fresh far s (Does x) = rw (act_kept j h me moment s.body (acts.Recovers x)) refl
 host_step_kept j h me moment fresh far s (Expires line x) = rw (act_kept j h me moment s.body (acts.Expires x)) refl
 host_step_kept j h me moment fresh far s (Makes x) =
-    rw (act_kept j h me moment s.body (acts.Makes x), makes_same (profile_of (header_by j h)) me s.body (acts.Makes x)) refl
+    rw (act_kept j h me moment s.body (acts.Makes x), makes_same (profile_of (header_by j h)) me moment s.body (acts.Makes x)) refl
 host_step_kept j h me moment fresh far s (Sends line number wire) = refl
 host_step_kept j h me moment fresh far s (Gets line copied wire) = refl
 host_step_kept j h me moment fresh far s (Hears line wire) = refl

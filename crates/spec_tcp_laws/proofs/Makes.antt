@@ -112,9 +112,9 @@ pub making_facts : (v : Version) (e : Endpoint) (m : SegmentPlan) → first_brok
 making_facts v e m may = let t = none_all (making_rules v e m) may in
     record { state = not_false _ t.1.0; payload = t.1.1.1.0; ack = t.1.1.1.1.0; offered = t.1.1.1.1.1.1.0; congestion = t.1.1.1.1.1.1.1.0 }
 
-pub made_good : (a : Hosts) (host : Host) (i : ℕ) (e : Endpoint) (m : SegmentPlan) → Good a
-    → slice_get (pick a host).body.endpoints i ≡ Some e → MayMake e m → GoodEmission a (emission_of (name host i) e m)
-made_good a host i e m g at t =
+pub made_good : (a : Hosts) (host : Host) (i : ℕ) (e : Endpoint) (m : SegmentPlan) (moment : ℕ) → Good a
+    → slice_get (pick a host).body.endpoints i ≡ Some e → MayMake e m → GoodEmission a (emission_of (name host i) e m moment)
+made_good a host i e m moment g at t =
     let f = fits e m t.state t.payload in
     record {
       there = (e, at, tt);
@@ -139,22 +139,22 @@ made_good a host i e m g at t =
     acks false k bad = absurd cc
 
 -- the segment that a making makes
-pub makes_good : (v : Version) (a : Hosts) (host : Host) (m : SegmentPlan) (x : Emission) → Good a
+pub makes_good : (v : Version) (a : Hosts) (host : Host) (moment : ℕ) (m : SegmentPlan) (x : Emission) → Good a
     → first_broken (rules_at (pick a host).body m.lport m.rport (λ e. making_rules v e m)) ≡ None
-    → option_map_or (made_at host (pick a host).body m) (place_of (pick a host).body m.lport m.rport) None ≡ Some x → GoodEmission a x
-makes_good v a host m x g may made = go (place_of (pick a host).body m.lport m.rport) may made
+    → option_map_or (made_at host moment (pick a host).body m) (place_of (pick a host).body m.lport m.rport) None ≡ Some x → GoodEmission a x
+makes_good v a host moment m x g may made = go (place_of (pick a host).body m.lport m.rport) may made
   where
     by : (i : ℕ) (o : Option Endpoint) → slice_get (pick a host).body.endpoints i ≡ o
         → first_broken (option_map_or (λ e. making_rules v e m) o ((rules.NoEndpoint, true) ∷ [])) ≡ None
-        → option_map (λ e. emission_of (name host i) e m) o ≡ Some x → GoodEmission a x
+        → option_map (λ e. emission_of (name host i) e m moment) o ≡ Some x → GoodEmission a x
     by i None at may made = absurd (none-some x made)
-    by i (Some e) at may made = subst (λ y. GoodEmission a y) (same_Some _ x made) (made_good a host i e m g at (making_facts v e m may))
+    by i (Some e) at may made = subst (λ y. GoodEmission a y) (same_Some _ x made) (made_good a host i e m moment g at (making_facts v e m may))
 
     go : (o : Option ℕ)
         → first_broken (option_map_or (λ e. making_rules v e m)
         (option_map_or (λ i. slice_get (pick a host).body.endpoints i) o None) ((rules.NoEndpoint, true) ∷ []))
         ≡ None
-        → option_map_or (made_at host (pick a host).body m) o None ≡ Some x → GoodEmission a x
+        → option_map_or (made_at host moment (pick a host).body m) o None ≡ Some x → GoodEmission a x
     go None may made = absurd (none-some x made)
     go (Some i) may made = by i (slice_get (pick a host).body.endpoints i) refl may made
 

@@ -1,5 +1,5 @@
 -- Each step keeps what holds, and adds to streams what it says.
-use Rattle.std.proofs.Common.{◌≡◌, ℕ, suc, Bool, true, false, List, [], ◌∷◌, take, Option, Some, None, refl, ap, sym, subst, ◌∙◌, nat_eq}
+use Rattle.std.proofs.Common.{◌≡◌, ℕ, suc, ◌-◌, ◌≤◌, Bool, true, false, List, [], ◌∷◌, arith, take, Option, Some, None, refl, ap, sym, subst, ◌∙◌, nat_eq}
 use Rattle.std.specs.Prelude.{if◌then◌else◌, not}
 use Rattle.std.specs.Option.{option_map_or}
 use Rattle.std.specs.Map.{lookup}
@@ -24,13 +24,15 @@ use Rattle.spec_network.specs.HostRules.{aim_of, just, fresh_rules, call_rules, 
 use Rattle.spec_network.specs.HostSteps.{host_step_after, call_after, effect_after, after}
 use Rattle.window_rules.specs.declared.control.Profile.{Profile}
 use Rattle.spec_tcp.specs.Signals.{profile_of}
+use Rattle.streams.specs.Received.{next}
 use Rattle.spec_tcp.specs.declared.endpoint.EndpointId.{EndpointId}
 use Rattle.spec_tcp.specs.declared.endpoint.Emission.{Emission}
+use Rattle.spec_tcp.specs.declared.endpoint.Endpoint.{Endpoint}
 use Rattle.spec_tcp.specs.declared.endpoint.SocketTarget.{SocketTarget}
 use Rattle.spec_tcp.specs.HostTcp.{HostTcp, given, socket_target}
 use Rattle.spec_tcp.specs.Calls.{is_bad_socket, target_allows, socket_allows, call_allows, after_call}
 use Rattle.case_forms.specs.declared.steps.SegmentPlan.{SegmentPlan}
-use Rattle.spec_tcp.specs.Wire.{sent}
+use Rattle.spec_tcp.specs.Wire.{is_before_text, sent}
 use Rattle.case_forms.specs.declared.steps.TakeChoice.{TakeChoice}
 use Rattle.spec_tcp.specs.Arrives.{taker, taker_rules}
 use Rattle.spec_tcp.specs.Reset.{reset_of}
@@ -66,8 +68,15 @@ emission_sent b moment wire m g = record {
   sent = g.sent;
   peer_at_send = g.peer_at_send;
   resets = g.resets;
-  ack = λ acks plain. g.ack (own_ack m.is_reset_reply _ m.flags.ack plain acks) plain;
+  ack = λ acks plain. let h = g.ack (own_ack m.is_reset_reply _ m.flags.ack plain acks) plain in
+      (h.0, (h.1.0, h.1.1, lower h.1.0 (is_before_text wire m) h.1.2));
 }
+  where
+    -- the number from before the text is lower
+    lower : (x : Endpoint) (before : Bool) → m.ack ≤ next x.stream.receive
+        → (if before then m.ack - m.raised else m.ack) ≤ next x.stream.receive
+    lower x true most = omega arith
+    lower x false most = most
 
 reset_good : (b : Hosts) (m : Emission) → GoodEmission b m → GoodEmission b (reset_of m)
 reset_good b m g = record {
@@ -200,7 +209,7 @@ kept_makes h s w host m g may up = let a = w.hosts in let k = pick a host in
     (moves_at_ports a host k.body m.lport m.rport (λ e. after_making e m s) (ends a host g) (plain_making m s))
     (λ c later t. record {
       made = made_after c k.made (suc w.count) ((tcp h).act_makes host s k.body ((tcp h).making m))
-          (λ x e. emission_later a c later x (makes_good h.version a host m x g may e)) t.made;
+          (λ x e. emission_later a c later x (makes_good h.version a host s m x g may e)) t.made;
       wire = t.wire;
       inbox = t.inbox;
     })

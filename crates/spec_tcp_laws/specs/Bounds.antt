@@ -34,9 +34,9 @@ pub record InBothWindows (e : Endpoint) (end : ℕ) : Type 0 where
 
 -- an endpoint with these ports exists, and if bytes of the segment are at or beyond the end of all that it sent before,
 -- they end in both windows
-abbrev pub NewDataFits : World tcp_shape → Host → SegmentPlan → Type 0
-NewDataFits w host m = (e : Endpoint) × (endpoint_of (pick w.hosts host).body m.lport m.rport ≡ Some e)
-    × ((x : Emission) → act_makes host (pick w.hosts host).body (acts.Makes m) ≡ Some x → 0 < length x.payload →
+abbrev pub NewDataFits : World tcp_shape → Host → (moment : ℕ) → SegmentPlan → Type 0
+NewDataFits w host moment m = (e : Endpoint) × (endpoint_of (pick w.hosts host).body m.lport m.rport ≡ Some e)
+    × ((x : Emission) → act_makes host moment (pick w.hosts host).body (acts.Makes m) ≡ Some x → 0 < length x.payload →
     snd_max e < x.pos + length x.payload → InBothWindows e (x.pos + length x.payload))
 
 -- the greatest congestion window that processing a segment allows, as the endpoint reads it

@@ -58,7 +58,7 @@ pub fn reads_were_carried()
 /// resets in answer to segments, carry no bytes.
 pub fn new_data_fits()
     ensures { (h : Header) (moment : ℕ) (w : World tcp_shape) (host : Host) (m : SegmentPlan) →
-        Permitted (tcp h) moment w (At host (Makes m)) → NewDataFits w host m }
+        Permitted (tcp h) moment w (At host (Makes m)) → NewDataFits w host moment m }
 {}
 
 /// Three steps leave the congestion window and the slow start threshold at or below what the endpoint's profile then

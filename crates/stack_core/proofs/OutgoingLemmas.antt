@@ -45,18 +45,18 @@ few_taken (suc n) (x ∷ xs) = let few = few_taken n xs in omega arith
 -- a segment that may be made is one, of at most so many bytes
 makes_one : (me : Host) (b : HostTcp) (m : SegmentPlan) (h : Header) (moment : ℕ)
     → first_broken (act_rules h me moment b (acts.Makes m)) ≡ None
-    → (e : Emission) × (act_makes me b (acts.Makes m) ≡ Some e) × (length e.payload ≤ m.len)
+    → (e : Emission) × (act_makes me moment b (acts.Makes m) ≡ Some e) × (length e.payload ≤ m.len)
 makes_one me b m h moment may = by (place_of b m.lport m.rport) may
   where
     at : (i : ℕ) (o : Option Endpoint) → first_broken (option_map_or (λ e. making_rules h.version e m) o ((rules.NoEndpoint, true) ∷ [])) ≡ None
-        → (e : Emission) × (option_map (λ e. emission_of (record { host = me; number = i }) e m) o ≡ Some e) × (length e.payload ≤ m.len)
+        → (e : Emission) × (option_map (λ e. emission_of (record { host = me; number = i }) e m moment) o ≡ Some e) × (length e.payload ≤ m.len)
     at i None may = absurd cc
-    at i (Some e) may = (emission_of (record { host = me; number = i }) e m, refl, few_taken m.len (drop (m.pos - 1) e.stream.accepted))
+    at i (Some e) may = (emission_of (record { host = me; number = i }) e m moment, refl, few_taken m.len (drop (m.pos - 1) e.stream.accepted))
 
     by : (o : Option ℕ)
         → first_broken (option_map_or (λ e. making_rules h.version e m) (option_map_or (λ i. slice_get b.endpoints i) o None)
         ((rules.NoEndpoint, true) ∷ [])) ≡ None
-        → (e : Emission) × (option_map_or (made_at me b m) o None ≡ Some e) × (length e.payload ≤ m.len)
+        → (e : Emission) × (option_map_or (made_at me moment b m) o None ≡ Some e) × (length e.payload ≤ m.len)
     by None may = absurd cc
     by (Some i) may = at i (slice_get b.endpoints i) may
 
@@ -64,13 +64,13 @@ stands : (n : ℕ) (e : Emission) (made : List (ℕ × Made Emission)) (o : Opti
     → lookup (nat_eq n) (on o made (λ x. insert_entry nat_eq made n (unsent x))) ≡ Some (unsent e)
 stands n e made o is = rw is (lookup_insert n n (unsent e) made ∙ ap (λ (b : Bool). cond b (Some (unsent e)) (lookup (nat_eq n) made)) (same_key n))
 
-made_there : (h : Header) (me : Host) (moment : ℕ) (w : World tcp_shape) (m : SegmentPlan) → Permitted (tcp h) 0 w (At me (Makes m))
+made_there : (h : Header) (me : Host) (moment : ℕ) (w : World tcp_shape) (m : SegmentPlan) → Permitted (tcp h) moment w (At me (Makes m))
     → (e : Emission) × (lookup (nat_eq (suc w.count)) (pick (after (tcp h) moment w (At me (Makes m))).hosts me).made
     ≡ Some (unsent e)) × (length e.payload ≤ m.len)
-made_there h Zero moment w m may = let e = makes_one Zero w.hosts.zero.body m h 0 may in
-    (e.0, stands (suc w.count) e.0 w.hosts.zero.made (act_makes Zero w.hosts.zero.body (acts.Makes m)) e.1, e.2)
-made_there h One moment w m may = let e = makes_one One w.hosts.one.body m h 0 may in
-    (e.0, stands (suc w.count) e.0 w.hosts.one.made (act_makes One w.hosts.one.body (acts.Makes m)) e.1, e.2)
+made_there h Zero moment w m may = let e = makes_one Zero w.hosts.zero.body m h moment may in
+    (e.0, stands (suc w.count) e.0 w.hosts.zero.made (act_makes Zero moment w.hosts.zero.body (acts.Makes m)) e.1, e.2)
+made_there h One moment w m may = let e = makes_one One w.hosts.one.body m h moment may in
+    (e.0, stands (suc w.count) e.0 w.hosts.one.made (act_makes One moment w.hosts.one.body (acts.Makes m)) e.1, e.2)
 
 -- the making leaves the segment there, under the last number given
 pub made_waits : (c d : Core) (m : SegmentPlan)

@@ -103,39 +103,39 @@ gone made xs number are = by (lookup (nat_eq number) made)
 
 -- 3. a host's step
 
-making_joins : (me : Host) (b : HostTcp) (m : SegmentPlan) (made : Table) (xs : List ℕ) (fresh : ℕ) → AreAwaited made xs
-    → AreAwaited (on (act_makes me b (acts.Makes m)) made (λ e. insert_entry nat_eq made fresh (unsent e))) xs
-making_joins me b m made xs fresh are = by (place_of b m.lport m.rport)
+making_joins : (me : Host) (moment : ℕ) (b : HostTcp) (m : SegmentPlan) (made : Table) (xs : List ℕ) (fresh : ℕ) → AreAwaited made xs
+    → AreAwaited (on (act_makes me moment b (acts.Makes m)) made (λ e. insert_entry nat_eq made fresh (unsent e))) xs
+making_joins me moment b m made xs fresh are = by (place_of b m.lport m.rport)
   where
     at : (i : ℕ) (o : Option Endpoint)
-        → AreAwaited (on (option_map (λ e. emission_of (record { host = me; number = i }) e m) o) made
+        → AreAwaited (on (option_map (λ e. emission_of (record { host = me; number = i }) e m moment) o) made
         (λ e. insert_entry nat_eq made fresh (unsent e))) xs
     at i None = are
-    at i (Some e) = plain_joins made xs fresh (emission_of (record { host = me; number = i }) e m) refl are
+    at i (Some e) = plain_joins made xs fresh (emission_of (record { host = me; number = i }) e m moment) refl are
 
-    by : (o : Option ℕ) → AreAwaited (on (option_map_or (made_at me b m) o None) made (λ e. insert_entry nat_eq made fresh (unsent e))) xs
+    by : (o : Option ℕ) → AreAwaited (on (option_map_or (made_at me moment b m) o None) made (λ e. insert_entry nat_eq made fresh (unsent e))) xs
     by None = are
     by (Some i) = at i (slice_get b.endpoints i)
 
-answering_joins : (me : Host) (b : HostTcp) (o : Option Emission) (made : Table) (xs : List ℕ) (fresh : ℕ)
+answering_joins : (me : Host) (moment : ℕ) (b : HostTcp) (o : Option Emission) (made : Table) (xs : List ℕ) (fresh : ℕ)
     → AreAwaited made xs → AreAwaited
-    (on o made (λ e. on (act_makes me b (acts.Resets e)) made (λ r. insert_entry nat_eq made fresh (unsent r))))
+    (on o made (λ e. on (act_makes me moment b (acts.Resets e)) made (λ r. insert_entry nat_eq made fresh (unsent r))))
     (xs ++ fresh ∷ [])
-answering_joins me b None made xs fresh are = more_awaited made xs (fresh ∷ []) are
-answering_joins me b (Some e) made xs fresh are = answer_joins made xs fresh (reset_of e) refl are
+answering_joins me moment b None made xs fresh are = more_awaited made xs (fresh ∷ []) are
+answering_joins me moment b (Some e) made xs fresh are = answer_joins made xs fresh (reset_of e) refl are
 
 host_step_awaited : (h : Header) (me : Host) (moment fresh : ℕ) (far : List (ℕ × Emission)) (s : HostState tcp_shape)
     (xs : List ℕ) (d : HostStep tcp_shape) → AreAwaited s.made xs
     → AreAwaited (host_step_after (tcp h) me moment fresh far s d).made (awaited xs (At me d) fresh)
 host_step_awaited h me moment fresh far s xs (Does x) are = are
 host_step_awaited h me moment fresh far s xs (Expires line x) are = are
-host_step_awaited h me moment fresh far s xs (Makes plan) are = making_joins me s.body plan s.made xs fresh are
+host_step_awaited h me moment fresh far s xs (Makes plan) are = making_joins me moment s.body plan s.made xs fresh are
 host_step_awaited h me moment fresh far s xs (Sends line number wire) are = gone s.made xs number are
 host_step_awaited h me moment fresh far s xs (Gets line copied wire) are = are
 host_step_awaited h me moment fresh far s xs (Hears line wire) are = are
 host_step_awaited h me moment fresh far s xs (Takes line choice) are = are
 host_step_awaited h me moment fresh far s xs (Drops line) are = are
-host_step_awaited h me moment fresh far s xs (Answers line) are = answering_joins me s.body (waiting line s.inbox) s.made xs fresh are
+host_step_awaited h me moment fresh far s xs (Answers line) are = answering_joins me moment s.body (waiting line s.inbox) s.made xs fresh are
 
 -- 4. a step
 

@@ -1,11 +1,12 @@
 -- What goes out shows the made segment.
 use Rattle.std.proofs.Common.{◌≡◌, ℕ, Bool, true, false, Option, None, Some, refl}
-use Rattle.std.specs.Prelude.{◌||◌, ◌&&◌, ◌==◌, not, min, if◌then◌else◌}
+use Rattle.std.specs.Prelude.{◌||◌, ◌&&◌, ◌==◌, nat_lt, not, min, if◌then◌else◌}
 use Rattle.std.specs.Option.{option_map_or}
+use Rattle.seqno.specs.Numbers.{number_of}
 use Rattle.seqno.specs.declared.word.Word.{Word}
 use Rattle.case_forms.specs.Versions.{says_sender, scales}
-use Rattle.case_forms.specs.declared.version.Version.{Version}
 use Rattle.case_forms.specs.declared.trace.Header.{Header}
+use Rattle.case_forms.specs.declared.version.Version.{Version}
 use Rattle.case_forms.specs.declared.steps.Flags.{Flags}
 use Rattle.segment.specs.Flags.{has_flag}
 use Rattle.segment.specs.declared.fields.Segment.{Segment}
@@ -42,25 +43,27 @@ bits false false false true s is = rw is refl
 bits false false false false s is = rw is refl
 
 -- ACK and the number, where the segment has ACK
-acks : (v : Version) (reply ack rst syn fin : Bool) (n : Word) (s : Segment) → let f : Flags = record { ack = ack; rst = rst; syn = syn; fin = fin } in
+acks : (v : Version) (reply ack rst syn fin : Bool) (n : Word) (raised : ℕ) (s : Segment)
+    → let f : Flags = record { ack = ack; rst = rst; syn = syn; fin = fin } in
     s.flags ≡ flag_bits f → s.ack ≡ (if ack then n else word_zero)
-    → (if has_flag s.flags Ack then (ack || says_sender v && reply) && same_word s.ack n else not ack) ≡ true
-acks v reply true true true true n s is told = rw (is, told) (number_same n.0)
-acks v reply true true true false n s is told = rw (is, told) (number_same n.0)
-acks v reply true true false true n s is told = rw (is, told) (number_same n.0)
-acks v reply true true false false n s is told = rw (is, told) (number_same n.0)
-acks v reply true false true true n s is told = rw (is, told) (number_same n.0)
-acks v reply true false true false n s is told = rw (is, told) (number_same n.0)
-acks v reply true false false true n s is told = rw (is, told) (number_same n.0)
-acks v reply true false false false n s is told = rw (is, told) (number_same n.0)
-acks v reply false true true true n s is told = rw is refl
-acks v reply false true true false n s is told = rw is refl
-acks v reply false true false true n s is told = rw is refl
-acks v reply false true false false n s is told = rw is refl
-acks v reply false false true true n s is told = rw is refl
-acks v reply false false true false n s is told = rw is refl
-acks v reply false false false true n s is told = rw is refl
-acks v reply false false false false n s is told = rw is refl
+    → (if has_flag s.flags Ack then (ack || says_sender v && reply)
+    && (same_word s.ack n || says_sender v && nat_lt 0 raised && same_word (number_of s.ack raised) n) else not ack) ≡ true
+acks v reply true true true true n raised s is told = rw (is, told, number_same n.0) refl
+acks v reply true true true false n raised s is told = rw (is, told, number_same n.0) refl
+acks v reply true true false true n raised s is told = rw (is, told, number_same n.0) refl
+acks v reply true true false false n raised s is told = rw (is, told, number_same n.0) refl
+acks v reply true false true true n raised s is told = rw (is, told, number_same n.0) refl
+acks v reply true false true false n raised s is told = rw (is, told, number_same n.0) refl
+acks v reply true false false true n raised s is told = rw (is, told, number_same n.0) refl
+acks v reply true false false false n raised s is told = rw (is, told, number_same n.0) refl
+acks v reply false true true true n raised s is told = rw is refl
+acks v reply false true true false n raised s is told = rw is refl
+acks v reply false true false true n raised s is told = rw is refl
+acks v reply false true false false n raised s is told = rw is refl
+acks v reply false false true true n raised s is told = rw is refl
+acks v reply false false true false n raised s is told = rw is refl
+acks v reply false false false true n raised s is told = rw is refl
+acks v reply false false false false n raised s is told = rw is refl
 
 either : (a b : Bool) → b ≡ true → (a || b) ≡ true
 either true b is = refl
@@ -69,7 +72,7 @@ either false b is = is
 pub shown : (v : Version) (m : Emission) (mss : Option ℕ) → header_matches v (as_written (segment_of m mss)) m ≡ true
 shown v m mss =
     let s : Segment = as_written (segment_of m mss) in
-    let ack = acks v m.is_reset_reply m.flags.ack m.flags.rst m.flags.syn m.flags.fin m.ack_seq s refl refl in
+    let ack = acks v m.is_reset_reply m.flags.ack m.flags.rst m.flags.syn m.flags.fin m.ack_seq m.raised s refl refl in
     let flags = bits m.flags.ack m.flags.rst m.flags.syn m.flags.fin s refl in
     let window = either m.is_reset_reply (m.window == m.window) (number_same m.window) in
     (λ i. number_same m.lport i && number_same m.rport i && number_same m.seq.0 i && ack i && flags i && window i && bytes_same m.payload i)

@@ -15,6 +15,7 @@ use Rattle.case_forms.specs.declared.calls.Host.{Host}
 use Rattle.case_forms.specs.declared.calls.Host.TheVariants.{Zero, One}
 use Rattle.case_forms.specs.declared.steps.TakeChoice.{TakeChoice}
 use Rattle.case_forms.specs.declared.trace.Header.{Header}
+use Rattle.case_forms.specs.declared.trace.Wire.{Wire}
 use Rattle.verdict.specs.declared.rule.Rule.{Rule}
 use Rattle.verdict.specs.declared.rule.Rule.TheVariants as rules
 use Rattle.verdict.specs.Rules.{first_broken}
@@ -130,8 +131,8 @@ earning_drop-forget v m taking Nobody = refl
 earning_drop-forget v m taking (AtListener l) = refl
 earning_drop-forget v m taking (AtEndpoint i e) = rw (rcv_nxt-forget e) refl
 
-sender-seen : (host : Host) (b : HostTcp) (m : Emission) → at_sender host (forget_body b) m ≡ at_sender host b m
-sender-seen host b m = rw (place-seen host b (sending_of m) m.sender.number) refl
+sender-seen : (host : Host) (b : HostTcp) (wire : Wire) (m : Emission) → at_sender host (forget_body b) wire m ≡ at_sender host b wire m
+sender-seen host b wire m = rw (place-seen host b (sending_of wire m) m.sender.number) refl
 
 taking-forget : (h : Header) (moment : ℕ) (w : World tcp_shape) (host : Host) (line : ℕ)
     → taking_breaks h moment (forget w) host line ≡ taking_breaks h moment w host line
@@ -151,10 +152,10 @@ host_step-seen h moment w fresh host s (network.Sends line number wire) = by (lo
     see t = record unseen { touched = t; built_change = Sends number }
 
     by : (o : Option (Made Emission))
-        → on o unseen (λ m. see (at_sender host (forget_body s.body) m.emission))
-        ≡ on o unseen (λ m. see (at_sender host s.body m.emission))
+        → on o unseen (λ m. see (at_sender host (forget_body s.body) wire m.emission))
+        ≡ on o unseen (λ m. see (at_sender host s.body wire m.emission))
     by None = refl
-    by (Some m) = ap see (sender-seen host s.body m.emission)
+    by (Some m) = ap see (sender-seen host s.body wire m.emission)
 host_step-seen h moment w fresh host s (network.Gets line copied wire) = refl
 host_step-seen h moment w fresh host s (network.Hears line wire) = refl
 host_step-seen h moment w fresh host s (network.Takes line how) = by (waiting line s.inbox)

@@ -16,6 +16,7 @@ use Rattle.case_forms.specs.declared.calls.Host.{Host}
 use Rattle.case_forms.specs.declared.calls.Host.TheVariants.{Zero, One}
 use Rattle.case_forms.specs.declared.steps.TakeChoice.{TakeChoice}
 use Rattle.case_forms.specs.declared.trace.Header.{Header}
+use Rattle.case_forms.specs.declared.trace.Wire.{Wire}
 use Rattle.case_forms.specs.declared.version.Judged.{Judged}
 use Rattle.verdict.specs.Rules.{first_broken}
 use Rattle.verdict.specs.declared.rule.Rule.{Rule}
@@ -114,14 +115,15 @@ drop_seen p v host b m taking Nobody may = untouched
 drop_seen p v host b m taking (AtListener l) may = untouched
 drop_seen p v host b m taking (AtEndpoint i e) may = place_seen p host b _ i may
 
-sender_seen : (p : Profile) (host : Host) (b : HostTcp) (m : Emission) → MayJudgeAll p b → Higher (at_sender host b m) (at_sender host (body_by p b) m)
-sender_seen p host b m may = by m.is_reset_reply
+sender_seen : (p : Profile) (host : Host) (b : HostTcp) (wire : Wire) (m : Emission) → MayJudgeAll p b
+    → Higher (at_sender host b wire m) (at_sender host (body_by p b) wire m)
+sender_seen p host b wire m may = by m.is_reset_reply
   where
     by : (reply : Bool)
-        → Higher (if reply then None else at_place host b (sending_of m) m.sender.number)
-        (if reply then None else at_place host (body_by p b) (sending_of m) m.sender.number)
+        → Higher (if reply then None else at_place host b (sending_of wire m) m.sender.number)
+        (if reply then None else at_place host (body_by p b) (sending_of wire m) m.sender.number)
     by true = untouched
-    by false = place_seen p host b (sending_of m) m.sender.number may
+    by false = place_seen p host b (sending_of wire m) m.sender.number may
 
 -- ---- which rule of the model the processing of a segment with nothing chosen would break
 
@@ -246,9 +248,9 @@ host_step_seen p j h moment w fresh host s (network.Sends line number wire) may 
     see t = record unseen { touched = t; built_change = Sends number }
 
     by : (o : Option (Made Emission))
-        → ShowsHigher (on o unseen (λ m. see (at_sender host s.body m.emission))) (on o unseen (λ m. see (at_sender host (body_by p s.body) m.emission)))
+        → ShowsHigher (on o unseen (λ m. see (at_sender host s.body wire m.emission))) (on o unseen (λ m. see (at_sender host (body_by p s.body) wire m.emission)))
     by None = shows_same unseen refl
-    by (Some m) = shown (see (at_sender host s.body m.emission)) _ (sender_seen p host s.body m.emission may)
+    by (Some m) = shown (see (at_sender host s.body wire m.emission)) _ (sender_seen p host s.body wire m.emission may)
 host_step_seen p j h moment w fresh host s (network.Gets line copied wire) may =
     shows_same (observe_host_step h moment w fresh host s (network.Gets line copied wire)) refl
 host_step_seen p j h moment w fresh host s (network.Hears line wire) may = shows_same (observe_host_step h moment w fresh host s (network.Hears line wire)) refl

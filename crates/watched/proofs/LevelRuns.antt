@@ -97,17 +97,17 @@ built_same a b after moment None (built_change.Builds number) built = refl
 built_same a b after moment (Some t) (built_change.Builds number) built = rw (mere_same a b after t) refl
 built_same a b after moment o (built_change.Sends number) built = refl
 
-strict_same : (s : Sampling) (event : Event) (a b : ℕ) (before after : View) (moment : ℕ) (acknowledged : Option ℕ) (keeps_alive : Bool) (o : StrictOwed)
-    → strict_after s event (view_with a before) (view_with b after) moment acknowledged keeps_alive o
-    ≡ strict_after s event before after moment acknowledged keeps_alive o
-strict_same s Opens a b before after moment acknowledged keeps_alive o = refl
-strict_same s (Calls abort) a b before after moment acknowledged keeps_alive o = refl
-strict_same s (Processes length rst) a b before after moment acknowledged keeps_alive o = refl
-strict_same s (Drops asks unlimited) a b before after moment acknowledged keeps_alive o = refl
-strict_same s (Builds m) a b before after moment acknowledged keeps_alive o = refl
-strict_same x (Sends s) a b before after moment acknowledged keeps_alive o = refl
-strict_same s (Expires timer) a b before after moment acknowledged keeps_alive o = refl
-strict_same s Recovers a b before after moment acknowledged keeps_alive o = refl
+strict_same : (s : Sampling) (event : Event) (a b : ℕ) (before after : View) (moment : ℕ) (acknowledged : Option ℕ) (sent : Option Unsent) (o : StrictOwed)
+    → strict_after s event (view_with a before) (view_with b after) moment acknowledged sent o
+    ≡ strict_after s event before after moment acknowledged sent o
+strict_same s Opens a b before after moment acknowledged sent o = refl
+strict_same s (Calls abort) a b before after moment acknowledged sent o = refl
+strict_same s (Processes length rst) a b before after moment acknowledged sent o = refl
+strict_same s (Drops asks unlimited) a b before after moment acknowledged sent o = refl
+strict_same s (Builds m) a b before after moment acknowledged sent o = refl
+strict_same x (Sends s) a b before after moment acknowledged sent o = refl
+strict_same s (Expires timer) a b before after moment acknowledged sent o = refl
+strict_same s Recovers a b before after moment acknowledged sent o = refl
 
 spared_same : (event : Event) (a : ℕ) (before : View) → is_spared event (view_with a before) ≡ is_spared event before
 spared_same (Builds m) a before = refl

@@ -30,6 +30,7 @@ use case_forms::{Host, Ports, SegmentPlan, TakeChoice, TakenLine, Version, Wire}
 use duties::{
     Target, asks, dropping_of, has_content, processing_place, reads_old_numbers, unborn, view_of,
 };
+use endpoint::is_before_text;
 use endpoint_state::{HostTcp, World};
 use spec_duties::{
     BuiltChange, CallChange, Event, InboxChange, Observation, Queueing, Sampling, Sending,
@@ -124,24 +125,25 @@ fn born_at(host: Host, event: Event, place: u32) -> TouchedEndpoint
 }
 
 #[inline(always)]
-fn sending_of(m: &Emission) -> Event
-    ensures { result ≡ sending_of m.now }
+fn sending_of(wire: &Wire, m: &Emission) -> Event
+    ensures { result ≡ sending_of wire.now m.now }
 {
     Event::Sends(Sending {
         flags: m.flags,
         pos: m.pos,
         length: m.length(),
+        before_text: is_before_text(wire, m),
     })
 }
 
 #[inline(always)]
-fn at_sender(host: Host, b: &HostTcp, m: &Emission) -> Option<TouchedEndpoint>
-    ensures { result ≡ at_sender host b.now m.now }
+fn at_sender(host: Host, b: &HostTcp, wire: &Wire, m: &Emission) -> Option<TouchedEndpoint>
+    ensures { result ≡ at_sender host b.now wire.now m.now }
 {
     if m.is_reset_reply {
         None
     } else {
-        at_place(host, b, sending_of(m), m.sender.number)
+        at_place(host, b, sending_of(wire, m), m.sender.number)
     }
 }
 
@@ -290,19 +292,19 @@ fn fresh(world: &World) -> u32
     world.count() + 1
 }
 
-/// A host sends the segment that it built under this number.
+/// A host sends the segment that it built under this number, and its line shows it like this.
 #[inline(always)]
 pub(crate) fn observe_sending(world: &World, host: Host, number: u32, wire: &Wire) -> Observation
     ensures { result ≡ on (lookup (nat_eq number) (pick world.now.world.hosts host).made) unseen
         (λ m. record unseen {
-          touched = at_sender host (pick world.now.world.hosts host).body m.emission;
+          touched = at_sender host (pick world.now.world.hosts host).body wire.now m.emission;
           built_change = built_change.Sends number;
           syn_change = syn_sent world.now.header.version m.emission wire.now.bytes;
         }) }
 {
     match world.made(host, number) {
         Some(made) => Observation {
-            touched: at_sender(host, world.body(host), made.emission()),
+            touched: at_sender(host, world.body(host), wire, made.emission()),
             built_change: BuiltChange::Sends(number),
             syn_change: syn_sent(world.header().version, made.emission(), &wire.bytes),
             ..unseen()

@@ -135,7 +135,7 @@ fn of_sent(
     wire: &Wire,
 ) -> Result<(), OutOfMemory> {
     match rule {
-        Rule::BytesDiffer => wire::sent_differs(out, scene.header().version, made, wire),
+        Rule::BytesDiffer => wire::differs(out, scene.header().version, made, wire),
         Rule::NotMade => wire::sent_before(out, scene, number),
         Rule::SendLate => late::built(out, scene, number),
         _ => Ok(()),
@@ -150,7 +150,7 @@ fn of_came(
     wire: &Wire,
 ) -> Result<(), OutOfMemory> {
     match rule {
-        Rule::CopyDiffers => wire::copy_differs(out, m, wire),
+        Rule::CopyDiffers => wire::copy_differs(out, scene.header().version, m, wire),
         Rule::Lifetime => wire::lifetime(out, scene, m),
         _ => Ok(()),
     }

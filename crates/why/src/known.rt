@@ -6,8 +6,8 @@ use crate::other_windows::say_fitting;
 use crate::scene::{Building, Expiring, Object, Processing, Scene};
 use crate::sendable::sendable_bytes;
 use crate::{resets, wire};
-use case_forms::{Call, Extras, Judged, OutOfMemory, RecoveryChange, Timer, Wire};
-use endpoint::greatest_values;
+use case_forms::{Call, Extras, Judged, OutOfMemory, RecoveryChange, Timer, Version, Wire};
+use endpoint::{acknowledges, greatest_values};
 use endpoint_state::Endpoint;
 use plain_words::{Known, about};
 use replayed::{Reason, end_of, old_data_reason};
@@ -52,7 +52,7 @@ fn is_known(scene: &Scene, known: Known) -> bool {
     match scene.object() {
         Object::Effect(thread, _) => is_call(scene.world.pending_call(thread), known),
         Object::Building(it) => is_known_of_built(scene, it, is_none, known),
-        Object::Sent(made, _, wire) => is_ack(made, wire, known),
+        Object::Sent(made, _, wire) => is_ack(scene.header().version, made, wire, known),
         Object::Expiring(it) => is_known_of_timer(scene, it, known),
         Object::Processing(it) => match known {
             Known::NothingNew => gives_no_sample(scene, it),
@@ -191,13 +191,13 @@ fn is_known_of(it: Building, is_none: bool, known: Known) -> bool {
 }
 
 // Whether a segment was sent with a higher, or a lower, acknowledgment number than it was built with.
-fn is_ack(made: &Emission, wire: &Wire, known: Known) -> bool {
+fn is_ack(version: Version, made: &Emission, wire: &Wire, known: Known) -> bool {
     let seg = &wire.seg;
     let is_same = made.lport == seg.src && made.rport == seg.dst && made.seq == seg.seq;
-    let ahead = seg.ack.0.wrapping_sub(made.ack_seq.0);
-    if !is_same || !made.flags.ack || ahead == 0 {
+    if !is_same || !made.flags.ack || acknowledges(version, seg.ack, made) {
         return false;
     }
+    let ahead = seg.ack.0.wrapping_sub(made.ack_seq.0);
     if ahead <= u32::MAX / 2 {
         known == Known::HigherAck
     } else {

@@ -2,9 +2,13 @@
 
 use crate::scene::{Scene, first_extra};
 use case_forms::{Event, Host, Label, OutOfMemory, Version, Wire};
+use endpoint::acknowledges;
 use plain_words::{HostName, word_if};
 use segment::{Flag, Segment};
 use spec_tcp::Emission;
+
+/// How many numbers there are.
+const TURN: u64 = 1 << 32;
 
 /// Writes that the host of an O line built no segment of the number that the step names, if that is so.
 pub(crate) fn describe_sent(
@@ -143,7 +147,12 @@ fn shown_before(scene: &Scene, number: u32) -> u64 {
 }
 
 /// The bytes in which the received segment and the sent one differ.
-pub(crate) fn copy_differs(out: &mut String, m: &Emission, wire: &Wire) -> Result<(), OutOfMemory> {
+pub(crate) fn copy_differs(
+    out: &mut String,
+    version: Version,
+    m: &Emission,
+    wire: &Wire,
+) -> Result<(), OutOfMemory> {
     let (sent, shown) = (m.bytes.as_slice(), wire.bytes.as_slice());
     if sent.len() != shown.len() {
         let (sent, shown) = (sent.len(), shown.len());
@@ -153,7 +162,7 @@ pub(crate) fn copy_differs(out: &mut String, m: &Emission, wire: &Wire) -> Resul
         )?;
     }
     first_difference(out, "byte of the segment", "sent", sent, shown)?;
-    differences(out, m, m.flags.ack, wire)
+    differences(out, version, m, m.flags.ack, wire)
 }
 
 /// When the segment was sent and received.
@@ -165,20 +174,36 @@ pub(crate) fn lifetime(out: &mut String, scene: &Scene, m: &Emission) -> Result<
     )
 }
 
-/// The fields in which a built segment and its line differ. In version 6, a reset in answer to a segment may show ACK.
-pub(crate) fn sent_differs(
+/// The fields in which the built segment and the line differ, and which other acknowledgment number it may show. In
+/// version 6, a reset in answer to a segment may show ACK.
+pub(crate) fn differs(
     out: &mut String,
     version: Version,
     m: &Emission,
     wire: &Wire,
 ) -> Result<(), OutOfMemory> {
     let may = version.says_sender() && m.is_reset_reply && wire.seg.has(Flag::Ack);
-    differences(out, m, m.flags.ack || may, wire)
+    differences(out, version, m, m.flags.ack || may, wire)?;
+    let is_right = !m.flags.ack || acknowledges(version, wire.seg.ack, m);
+    if is_right || !version.says_sender() || m.raised == 0 {
+        return Ok(());
+    }
+    let before = m.ack_seq.0.wrapping_sub((m.raised % TURN) as u32);
+    writeln!(
+        out,
+        "  also permitted: {before}, the number from before the text that was processed at that moment"
+    )
 }
 
-// The fields in which the segment and the line differ; `ack`: the segment acknowledges.
-fn differences(out: &mut String, m: &Emission, ack: bool, wire: &Wire) -> Result<(), OutOfMemory> {
-    for (name, built, shown) in &fields(m, ack, &wire.seg) {
+// The fields in which the segment and the line differ; `acks`: the segment acknowledges.
+fn differences(
+    out: &mut String,
+    version: Version,
+    m: &Emission,
+    acks: bool,
+    wire: &Wire,
+) -> Result<(), OutOfMemory> {
+    for (name, built, shown) in &fields(version, m, acks, &wire.seg) {
         if built != shown {
             writeln!(out, "  {name}: built {built}, the line shows {shown}")?;
         }
@@ -192,8 +217,14 @@ fn differences(out: &mut String, m: &Emission, ack: bool, wire: &Wire) -> Result
 }
 
 // The fields of the built segment and of the shown one. A number that nobody reads is that of the shown one.
-fn fields(m: &Emission, acks: bool, seg: &Segment) -> [(&'static str, u64, u64); 10] {
-    let ack = if acks { m.ack_seq } else { seg.ack };
+fn fields(
+    version: Version,
+    m: &Emission,
+    acks: bool,
+    seg: &Segment,
+) -> [(&'static str, u64, u64); 10] {
+    let is_wrong = acks && !acknowledges(version, seg.ack, m);
+    let ack = if is_wrong { m.ack_seq } else { seg.ack };
     let window = if m.is_reset_reply {
         seg.window
     } else {

@@ -4,9 +4,9 @@
 ghost use Rattle.std.specs.Prelude.{◌≡◌, if◌then◌else◌, OnOk};
 ghost use Rattle.spec_network.specs.Tables.{on, pick, with_host};
 ghost use Rattle.spec_duties.specs.Sampling.{is_sample_due};
-ghost use Rattle.spec_duties.specs.Watching.{brought_by, built_unsent, credits_after, credits_earned};
+ghost use Rattle.spec_duties.specs.Watching.{built_unsent, credits_after, credits_earned};
 ghost use Rattle.spec_duties.specs.Watching.{credits_spent, judged_lates, lacks_credit};
-ghost use Rattle.spec_duties.specs.Watching.{sends_in_excess, sends_keep_alive, sent_by, strict_by};
+ghost use Rattle.spec_duties.specs.Watching.{sends_in_excess, sent_by, strict_by};
 ghost use Rattle.spec_duties.specs.Watching.{strict_table_after, unsent_after};
 
 use crate::acknowledge::acknowledge_due;
@@ -21,28 +21,6 @@ use spec_duties::{
     BuiltChange, Lates, Observation, Sampling, StrictOwed, TouchedEndpoint, Unsent, View,
 };
 use spec_tcp::EndpointId;
-
-// Since when the acknowledgment is owed that a segment brings which is sent. None: it brings none.
-#[inline(always)]
-pub(super) fn brought_by(sent: &Option<Unsent>) -> Option<u64>
-    ensures { result ≡ brought_by sent.now }
-{
-    match sent {
-        Some(unsent) => unsent.acknowledge,
-        None => None,
-    }
-}
-
-// Whether the segment that is sent is a keep-alive.
-#[inline(always)]
-fn sends_keep_alive(sent: &Option<Unsent>) -> bool
-    ensures { result ≡ sends_keep_alive sent.now }
-{
-    match sent {
-        Some(unsent) => unsent.keeps_alive,
-        None => false,
-    }
-}
 
 impl Duties {
     /// What the endpoint at a place owes by the stricter duties.
@@ -201,17 +179,8 @@ impl Duties {
         }) }
     {
         let acknowledged = self.owed_by(touched.host, touched.place).acknowledged;
-        let keeps_alive = sends_keep_alive(sent);
         let owed = self.strict_by(touched.host, touched.place);
-        let next = strict_after(
-            sampling,
-            touched,
-            after,
-            moment,
-            acknowledged,
-            keeps_alive,
-            &owed,
-        );
+        let next = strict_after(sampling, touched, after, moment, acknowledged, sent, &owed);
         self.strict.insert_owed(touched.host, touched.place, next)
     }
 

@@ -28,7 +28,7 @@ use crate::arrives::other_states::ack::{
 use crate::arrives::other_states::fin::finished;
 use crate::arrives::other_states::peer::is_from_peer;
 use crate::arrives::other_states::sequence::{is_acceptable, is_bad_number};
-use crate::arrives::other_states::text::receive;
+use crate::arrives::other_states::text::{receive, text_raised};
 use crate::arrives::other_states::timers::{state_timers, timers_before};
 use crate::arrives::other_states::window::{
     is_unread, probe_due_after_segment, window_after_segment,
@@ -102,8 +102,11 @@ pub(crate) fn on_segment(
     let probe_due = probe_due_after_segment(endpoint, m);
     let timers = timers_before(header, endpoint, how, m, moment);
     let backoffs = backoffs_after_segment(endpoint, m);
-    let ended = receive(endpoint, how, m)?;
+    let text = endpoint.text;
+    let raised = text_raised(endpoint, moment);
+    let (ended, rises) = receive(endpoint, how, m)?;
     let state = finished(state, ended);
+    endpoint.text = if rises { raised } else { text };
     endpoint.state = state;
     endpoint.stream.snd_una = snd_una;
     endpoint.window = window;

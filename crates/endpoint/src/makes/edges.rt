@@ -2,7 +2,7 @@
 
 ghost use Rattle.endpoint.specs.Small.{IsSmall};
 ghost use Rattle.spec_tcp.specs.Endpoints.{rcv_nxt};
-ghost use Rattle.spec_tcp.specs.Makes.Edges.{is_bad_ack, own_window, is_beyond_offer, is_congesting};
+ghost use Rattle.spec_tcp.specs.Makes.Edges.{is_bad_ack, raised_at, own_window, is_beyond_offer, is_congesting};
 ghost use Rattle.spec_tcp.specs.Makes.Kind.{word_zero, seq_of};
 ghost use Rattle.std.specs.Prelude.{◌≡◌, ◌<◌, ◌^◌, if◌then◌else◌, ◌+◌, max};
 
@@ -56,6 +56,17 @@ pub(crate) fn acknowledgment(endpoint: &Endpoint, making: &SegmentPlan) -> (u64,
     }
     let rcv_nxt = endpoint.rcv_nxt();
     (rcv_nxt, seq_of(endpoint.irs, rcv_nxt))
+}
+
+// How far the text that was taken at this moment, in microseconds, raised the position that it acknowledges.
+pub(crate) fn raised_at(endpoint: &Endpoint, making: &SegmentPlan, moment: u64) -> u64
+    ensures { result ≡ raised_at endpoint.now making.now moment }
+{
+    let text = endpoint.text;
+    if making.flags.ack && text.moment == moment && 0 < text.before {
+        return endpoint.rcv_nxt().saturating_sub(text.before);
+    }
+    0
 }
 
 // The window that it offers, in bytes.

@@ -47,7 +47,7 @@ impl HostTcp {
         requires kept { All HasRoom self.old.endpoints }
         requires small { plan.now.pos ≤ greatest_position }
         requires there { is_some (slice_get self.old.endpoints me.number) ≡ true }
-        ensures made { IfOk result (λ m. option_map (λ e. emission_of me e plan.now)
+        ensures made { IfOk result (λ m. option_map (λ e. emission_of me e plan.now moment)
             (slice_get self.old.endpoints me.number) ≡ Some m) }
         ensures small { IfOk result IsSmallEmission }
         ensures ok { OnOk result (self.new ≡ forget_body

@@ -25,7 +25,7 @@ use Rattle.spec_tcp.specs.Arrives.OtherStates.Ack.{is_bad_ack_range, is_new_ack,
 use Rattle.window_rules.specs.Control.{greatest, after}
 use Rattle.spec_tcp.specs.Signals.{at_moment, signal_of}
 use Rattle.spec_tcp.specs.Arrives.OtherStates.Window.{is_unread, window_after_segment, opens_window}
-use Rattle.spec_tcp.specs.Arrives.OtherStates.Text.{stream_after_segment, state_after_segment}
+use Rattle.spec_tcp.specs.Arrives.OtherStates.Text.{stream_after_segment, text_after_segment, state_after_segment}
 use Rattle.spec_tcp.specs.Arrives.OtherStates.Timers.{timers_after_segment}
 
 -- the child would join a full queue (specific to this profile: `extra` more than the backlog)
@@ -57,6 +57,7 @@ taken h e how m moment = record e {
   state = state_after_segment e how m;
   stream = stream_after_segment e how m;
   window = window_after_segment e m;
+  text = text_after_segment e how m moment;
   control = after e.control (signal_of e m) (at_moment e moment) how.cwnd e.control.values.ssthresh;
   recover = if opens_window e m && is_some e.timers.persist_armed then snd_max e else e.recover;
   probe_due = e.probe_due && not (opens_window e m);

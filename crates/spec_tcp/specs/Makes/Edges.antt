@@ -1,6 +1,6 @@
 -- The acknowledgment of a segment to build, and the windows in which its bytes end (RFC 9293, 3.8.6; RFC 5681, 3.1; RFC
 -- 7323, 2.3).
-use Rattle.std.specs.Prelude.{ℕ, ◌+◌, ◌==◌, nat_le, nat_lt, Bool, not, ◌&&◌, if◌then◌else◌}
+use Rattle.std.specs.Prelude.{ℕ, ◌+◌, ◌-◌, ◌==◌, nat_le, nat_lt, Bool, not, ◌&&◌, if◌then◌else◌}
 use Rattle.case_forms.specs.declared.steps.SegmentPlan.{SegmentPlan}
 use Rattle.window_rules.specs.Windows.{offered_edge}
 use Rattle.window_rules.specs.Control.{control_edge}
@@ -10,6 +10,12 @@ use Rattle.spec_tcp.specs.Makes.Payload.{has_new_bytes}
 -- an acknowledgment before the peer's SYN was received, or none afterwards; a reset may do without (RFC 9293, 3.10.7.4)
 abbrev pub is_bad_ack : Endpoint → SegmentPlan → Bool
 is_bad_ack e m = if m.flags.ack then rcv_nxt e == 0 else not m.flags.rst && nat_le 1 (rcv_nxt e)
+
+-- how far the text that was taken at this moment raised the next position expected. RFC 9293, 3.10.7.4, processes a
+-- segment's acknowledgment (fifth) before its text (seventh), and segments are built on the way
+abbrev pub raised_at : Endpoint → SegmentPlan → ℕ → ℕ
+raised_at e m moment =
+    if m.flags.ack && e.text.moment == moment && nat_lt 0 e.text.before then rcv_nxt e - e.text.before else 0
 
 -- the window that it offers, in bytes
 abbrev pub own_window : Endpoint → SegmentPlan → ℕ

@@ -1,28 +1,30 @@
 //! Seventh, the segment text.
 
-ghost use Rattle.spec_tcp.specs.Arrives.OtherStates.Text.{kept_bytes, kept_start, receive_after};
+ghost use Rattle.spec_tcp.specs.Arrives.OtherStates.Text.{kept_bytes, kept_start, receive_after, text_raised};
 ghost use Rattle.spec_tcp.specs.Bounds.{IsSmallEmission, greatest_position};
 ghost use Rattle.spec_tcp.specs.Endpoints.{rcv_nxt};
-ghost use Rattle.std.specs.Prelude.{◌≡◌, ◌≤◌, ◌<◌, ◌+◌, ◌^◌, IfOk, OnOk, OnErr, length};
+ghost use Rattle.std.specs.Prelude.{◌≡◌, ◌≤◌, ◌<◌, ◌+◌, ◌^◌, nat_lt, IfOk, OnOk, OnErr, length};
 ghost use Rattle.streams.specs.Forgetting.{forgotten};
 ghost use Rattle.streams.specs.Received.{is_ended, kept, next};
 
 use crate::arrives::other_states::fin::{fin_place, first_byte, keeps_fin};
 use case_forms::TakeChoice;
 use segment::OutOfMemory;
-use spec_tcp::{Arrived, Endpoint, Stream};
+use spec_tcp::{Arrived, Endpoint, Stream, TextTaken};
 
 /// Stores what is kept of a segment. The answer is whether the peer's FIN and everything before it have now been
-/// received.
+/// received, and whether RCV.NXT rose.
 pub(crate) fn receive(
     endpoint: &mut Endpoint,
     how: TakeChoice,
     m: &Arrived<'_>,
-) -> Result<bool, OutOfMemory>
+) -> Result<(bool, bool), OutOfMemory>
     requires small { IsSmallEmission m.now }
     requires met { 1 ≤ rcv_nxt endpoint.old }
     requires forgets { forgotten endpoint.old.stream.receive ≡ endpoint.old.stream.receive }
-    ensures ended { IfOk result (λ ended. ended ≡ is_ended (receive_after endpoint.old how m.now)) }
+    ensures ended { IfOk result (λ answer. answer.0 ≡ is_ended (receive_after endpoint.old how m.now)) }
+    ensures rises { IfOk result (λ answer.
+        answer.1 ≡ nat_lt (rcv_nxt endpoint.old) (next (receive_after endpoint.old how m.now))) }
     ensures ok { OnOk result (endpoint.new
         ≡ record endpoint.old {
           stream = record endpoint.old.stream {
@@ -35,11 +37,28 @@ pub(crate) fn receive(
     let start = kept_start(endpoint, m);
     let fin = keeps_fin(endpoint, how, m);
     let bytes = kept_bytes(endpoint, how, m);
+    let before = endpoint.rcv_nxt();
     if bytes.is_empty() && !fin {
-        return Ok(endpoint.stream.receive.is_ended());
+        let ended = endpoint.stream.receive.is_ended();
+        return Ok((ended, before < endpoint.rcv_nxt()));
     }
     store(&mut endpoint.stream, start, bytes, fin)?;
-    Ok(endpoint.stream.receive.is_ended())
+    let ended = endpoint.stream.receive.is_ended();
+    Ok((ended, before < endpoint.rcv_nxt()))
+}
+
+/// When text raised RCV.NXT, and RCV.NXT before that, if it does at this moment, in microseconds. Of several times at one
+/// moment, the first counts.
+pub(crate) fn text_raised(endpoint: &Endpoint, moment: u64) -> TextTaken
+    ensures { result ≡ text_raised endpoint.now moment }
+{
+    if endpoint.text.moment == moment && 0 < endpoint.text.before {
+        return endpoint.text;
+    }
+    TextTaken {
+        moment,
+        before: endpoint.rcv_nxt(),
+    }
 }
 
 // Stores these bytes, and the FIN after them if there is one. If memory runs out, nothing is changed.

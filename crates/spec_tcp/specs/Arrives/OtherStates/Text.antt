@@ -1,9 +1,9 @@
 -- Seventh, the segment text, and the stream and the state afterwards (RFC 9293, 3.10.7.4).
-use Rattle.std.specs.Prelude.{ℕ, ◌-◌, min, max, if◌then◌else◌, List, [], slice_range}
+use Rattle.std.specs.Prelude.{ℕ, ◌-◌, ◌==◌, nat_lt, ◌&&◌, min, max, if◌then◌else◌, List, [], slice_range}
 use Rattle.case_forms.specs.declared.calls.State.{State}
 use Rattle.case_forms.specs.declared.steps.TakeChoice.{TakeChoice}
-use Rattle.streams.specs.Received.{Receiving, is_ended, kept}
-use Rattle.spec_tcp.specs.Endpoints.{Stream, Endpoint, Emission, rcv_nxt}
+use Rattle.streams.specs.Received.{Receiving, is_ended, kept, next}
+use Rattle.spec_tcp.specs.Endpoints.{Stream, TextTaken, Endpoint, Emission, rcv_nxt}
 use Rattle.spec_tcp.specs.Arrives.OtherStates.Ack.{snd_una_after_segment, acknowledged}
 use Rattle.spec_tcp.specs.Arrives.OtherStates.Fin.{first_byte, fin_place, keeps_fin, finished}
 
@@ -19,6 +19,17 @@ kept_bytes e how m =
 
 abbrev pub receive_after : Endpoint → TakeChoice → Emission → Receiving
 receive_after e how m = kept e.stream.receive (kept_start e m) (kept_bytes e how m) (keeps_fin e how m)
+
+-- the moment at which text, or a FIN, raises the next position expected, and that position before all text that did so
+-- at this moment; what is built then may have been built before the text (RFC 9293, 3.10.7.4)
+abbrev pub text_raised : Endpoint → ℕ → TextTaken
+text_raised e moment =
+    if e.text.moment == moment && nat_lt 0 e.text.before then e.text
+    else record { moment = moment; before = rcv_nxt e }
+
+abbrev pub text_after_segment : Endpoint → TakeChoice → Emission → ℕ → TextTaken
+text_after_segment e how m moment =
+    if nat_lt (rcv_nxt e) (next (receive_after e how m)) then text_raised e moment else e.text
 
 abbrev pub stream_after_segment : Endpoint → TakeChoice → Emission → Stream
 stream_after_segment e how m = record e.stream { receive = receive_after e how m; snd_una = snd_una_after_segment e m }

@@ -43,16 +43,16 @@ returns c h moment w host m may = go (place_of (pick w.hosts host).body m.lport 
     es : List Endpoint
     es = (pick w.hosts host).body.endpoints
 
-    made : (i : ℕ) (e : Endpoint) (x : Emission) → MayMake e m → Some (emission_of (name host i) e m) ≡ Some x
+    made : (i : ℕ) (e : Endpoint) (x : Emission) → MayMake e m → Some (emission_of (name host i) e m moment) ≡ Some x
         → 0 < length x.payload → snd_max e < x.pos + length x.payload → InBothWindows e (x.pos + length x.payload)
     made i e x t is =
         subst (λ (y : Emission). 0 < length y.payload → snd_max e < y.pos + length y.payload
-        → InBothWindows e (y.pos + length y.payload)) (same_Some (emission_of (name host i) e m) x is)
+        → InBothWindows e (y.pos + length y.payload)) (same_Some (emission_of (name host i) e m moment) x is)
         (fits e m t (length (take m.len (drop (m.pos - 1) e.stream.accepted))) (omega (arith, length-take m.len (drop (m.pos - 1) e.stream.accepted))))
 
     by : (i : ℕ) (o : Option Endpoint) → first_broken (option_map_or (λ e. making_rules h.version e m) o ((rules.NoEndpoint, true) ∷ [])) ≡ None
         → (e : Endpoint) × (o ≡ Some e)
-        × ((x : Emission) → option_map (λ y. emission_of (name host i) y m) o ≡ Some x → 0 < length x.payload
+        × ((x : Emission) → option_map (λ y. emission_of (name host i) y m moment) o ≡ Some x → 0 < length x.payload
         → snd_max e < x.pos + length x.payload → InBothWindows e (x.pos + length x.payload))
     by i None may = absurd (none-some _ (sym may))
     by i (Some e) may = (e, refl, λ x is. made i e x (making_facts h.version e m may) is)
@@ -61,7 +61,7 @@ returns c h moment w host m may = go (place_of (pick w.hosts host).body m.lport 
         → first_broken (option_map_or (λ e. making_rules h.version e m) (option_map_or (λ i. slice_get es i) o None)
         ((rules.NoEndpoint, true) ∷ [])) ≡ None
         → (e : Endpoint) × (option_map_or (λ i. slice_get es i) o None ≡ Some e)
-        × ((x : Emission) → option_map_or (made_at host (pick w.hosts host).body m) o None ≡ Some x
+        × ((x : Emission) → option_map_or (made_at host moment (pick w.hosts host).body m) o None ≡ Some x
         → 0 < length x.payload → snd_max e < x.pos + length x.payload → InBothWindows e (x.pos + length x.payload))
     go None may = absurd (none-some _ (sym may))
     go (Some i) may = by i (slice_get es i) may

@@ -25,7 +25,7 @@ returns-then-place-len-clause-ok c =
 
 pub returns-then-place-len-clause-made : goal.returns-then-place-len-clause-made
 returns-then-place-len-clause-made c =
-    ap (option_map (λ (e : Endpoint). emission_of c.args.me e c.args.making.now))
+    ap (option_map (λ (e : Endpoint). emission_of c.args.me e c.args.making.now c.args.moment))
     (found_at c.self.inside.all.items c.args.self.now c.args.me.number c.index_mut.result.now c.self.view_is
     (let ok = c.self.inside.all.ok in let len = c.len.ensures in let less = c.if-place-len.true in omega arith)
     c.index_mut.ensures.value)
