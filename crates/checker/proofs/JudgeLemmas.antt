@@ -21,7 +21,7 @@ use Rattle.spec_tcp.specs.Machine.{tcp, tcp_shape}
 use Rattle.spec_tcp_laws.specs.Ascending.{ascend, IsLeastBroken}
 use Rattle.spec_tcp_laws.proofs.Ascending.{first_is_least}
 use Rattle.spec_cases.specs.Cases.{Known, first_known, known_after_all}
-use Rattle.watched.proofs.AscendLemmas.{all_ascend as step_ascend}
+use Rattle.watched.proofs.RefusalLemmas.{all_ascend as step_ascend}
 use Rattle.checker.specs.Seen.{move_of, moves, act_of, stamped}
 use Rattle.checker.specs.Verdicts.{act_after, act_rules, all_rules, broken, next_world, takes_line, line_named, verdict, verdict_from, verdict_left, late_after}
 use Rattle.checker.specs.Verdicts.{refused_or}

@@ -26,10 +26,12 @@ use Rattle.spec_tcp.specs.Machine.{tcp, tcp_shape}
 use Rattle.spec_tcp_laws.specs.Ascending.{rule_number}
 use Rattle.spec_tcp_laws.proofs.Rules.{at_most_to, both_true}
 use Rattle.duties.proofs.SlackLemmas.{dutiful_any, late_any, nothing_judged}
-use Rattle.spec_cases.specs.Cases.{Dutiful, Known, first_known, known_after_all, late_at_end, watch_rules}
+use Rattle.spec_flights.specs.Flights.{judges}
+use Rattle.spec_cases.specs.Cases.{Dutiful, Known, first_known, known_after_all, late_at_end, model_rules, watch_rules}
 use Rattle.spec_duties.specs.Observations.{observe}
 use Rattle.spec_cases.specs.Slack.{AtMost, with_slack}
-use Rattle.watched.proofs.AscendLemmas.{rules_top, tops}
+use Rattle.watched.proofs.AscendLemmas.{tops}
+use Rattle.watched.proofs.RefusalLemmas.{model_top}
 use Rattle.watched.proofs.SlackRuns.{dutiful_with, end_with, lawful_with}
 use Rattle.checker.specs.Explains.{Explains}
 use Rattle.checker.specs.Judges.{BreaksFirst, LeavesLine, OwesAtEnd, rules_at}
@@ -87,15 +89,15 @@ less_late_stays_yes slack = record {
 
 -- ---- with `any`
 
--- lines that are placed, in turns, by a run of the model are explained
-pub explained_by_model : (t : Trace) (w : Witness) → t.header.slack ≡ None → Placed t.header t.lines (moves w.steps)
+-- lines that are placed, in turns, by a run of the model are explained, if data in flight isn't judged
+pub explained_by_model : (t : Trace) (w : Witness) → t.header.slack ≡ None → judges t.header ≡ false → Placed t.header t.lines (moves w.steps)
     → ((thread : ℕ) → Turns (tcp t.header) thread Idle (stamped t.header t.lines w.steps))
     → Lawful (tcp t.header) (start (tcp t.header)) (stamped t.header t.lines w.steps) → Explains t w
-explained_by_model t w any placed take_turns run = record {
+explained_by_model t w any unjudged placed take_turns run = record {
   placed = placed;
   turns = take_turns;
   run = run;
-  duties = dutiful_any t.header (first_known t.header) (stamped t.header t.lines w.steps) any;
+  duties = dutiful_any t.header (first_known t.header) (stamped t.header t.lines w.steps) any unjudged;
   in_time = late_any t.header (last_moment (moves w.steps)) (known_after_all t.header (first_known t.header) (stamped t.header t.lines w.steps)) any;
 }
 
@@ -113,7 +115,7 @@ case_top : (h : Header) (k : Known) (o : Option (Stamped tcp_shape)) → h.slack
 case_top h k None any = refl
 case_top h k (Some x) any =
     let none = nothing_judged h x.moment k.duties (observe h x.moment k.model x.step) any in
-    tops_both (step_rules (tcp h) x.moment k.model x.step) (watch_rules h x.moment k x.step) (rules_top h x.moment k.model x.step) (ap tops none)
+    tops_both (model_rules h x.moment k x.step) (watch_rules h x.moment k x.step) (model_top h x.moment k x.step) (ap tops none)
 
 all_top : (h : Header) (lines : List Line) (earlier : List Step) (k : Known) (s : Step) → h.slack ≡ None → tops (all_rules h lines earlier k s) ≡ true
 all_top h lines earlier k s any =

@@ -20,7 +20,8 @@ use Rattle.spec_network.specs.HostSteps.{start, Lawful}
 use Rattle.spec_network.specs.HostRules.{step_rules}
 use Rattle.spec_network.proofs.Turns.{turns}
 use Rattle.spec_tcp.specs.Machine.{tcp, tcp_shape}
-use Rattle.spec_cases.specs.Cases.{Known, first_known, Dutiful, known_after_all, watch_rules}
+use Rattle.spec_cases.specs.Cases.{Known, first_known, Dutiful, known_after_all, model_rules, watch_rules}
+use Rattle.watched.proofs.CaseLemmas.{fine_by, not_refused_by, permitted_by}
 use Rattle.checker.specs.Seen.{move_of, moves, act_of, stamped}
 use Rattle.checker.specs.Verdicts.{act_rules, act_after, broken, late_after, next_world, verdict, verdict_from, verdict_left, refused_or}
 use Rattle.checker.specs.Explains.{Explains, IsYes}
@@ -94,8 +95,10 @@ run_more : (header : Header) (w : Known) (act : Option (Stamped tcp_shape)) (res
     → IsKeptRun header w (cons_option act rest)
 run_more header w None rest none run = run
 run_more header w (Some act) rest none run =
-    let both = none_both (step_rules (tcp header) act.moment w.model act.step) (watch_rules header act.moment w act.step) none in
-    ((both.0, run.0), (both.1, run.1))
+    let both = none_both (model_rules header act.moment w act.step) (watch_rules header act.moment w act.step) none in (
+      (permitted_by header act.moment w act.step both.0, run.0),
+      (record { duties = both.1; flights = not_refused_by header act.moment w act.step both.0 }, run.1),
+    )
 
 run_part : (header : Header) (lines : List Line) (earlier : List Step) (w : Known) (steps : List Step)
     → IsClean header lines earlier w steps → IsKeptRun header w (stamped header lines steps)
@@ -136,8 +139,9 @@ run_none : (header : Header) (w : Known) (act : Option (Stamped tcp_shape)) (res
     → IsKeptRun header w (cons_option act rest) → first_broken (act_part header w act) ≡ None
 run_none header w None rest run = refl
 run_none header w (Some act) rest run =
-    first_broken-append_none (step_rules (tcp header) act.moment w.model act.step) (watch_rules header act.moment w act.step) run.0.0
-    ∙ run.1.0
+    first_broken-append_none (model_rules header act.moment w act.step) (watch_rules header act.moment w act.step)
+    (fine_by header act.moment w act.step run.1.0.flights run.0.0)
+    ∙ run.1.0.duties
 
 run_rest : (header : Header) (w : Known) (act : Option (Stamped tcp_shape)) (rest : List (Stamped tcp_shape))
     → IsKeptRun header w (cons_option act rest) → IsKeptRun header (option_map_or (act_after header w) act w) rest

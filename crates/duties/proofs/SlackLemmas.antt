@@ -59,19 +59,19 @@ use Rattle.spec_duties.specs.declared.views.View.{View}
 pub nothing_judged : (h : Header) (moment : ℕ) (d : Duties) (s : Observation) → h.slack ≡ None → judged_rules h moment d s ≡ []
 nothing_judged h moment d s any = ap (λ o. on o [] (λ slack. duty_rules h slack moment d s)) any
 
--- nor does what is kept of data in flight refuse anything before version 6
-not_judging : (h : Header) → says_sender h.version ≡ false → judges h ≡ false
+-- nor does what is kept of data in flight refuse anything where it isn't judged: in versions 1 to 5, or at the level `none`
+pub not_judging : (h : Header) → says_sender h.version ≡ false → judges h ≡ false
 not_judging h old = ap (λ (b : Bool). b && judges_repeats h.congestion) old
 
-pub refused_before : (h : Header) (moment : ℕ) (k : Known) (step : Step tcp_shape) → says_sender h.version ≡ false → refused_by h moment k step ≡ None
-refused_before h moment k (network.Begin line t call) old = refl
-refused_before h moment k (network.Finish line t answer) old = refl
-refused_before h moment k (network.Effect t answer) old = refl
-refused_before h moment k (network.At host d) old = at d
+pub refused_unjudged : (h : Header) (moment : ℕ) (k : Known) (step : Step tcp_shape) → judges h ≡ false → refused_by h moment k step ≡ None
+refused_unjudged h moment k (network.Begin line t call) none = refl
+refused_unjudged h moment k (network.Finish line t answer) none = refl
+refused_unjudged h moment k (network.Effect t answer) none = refl
+refused_unjudged h moment k (network.At host d) none = at d
   where
     at : (d : HostStep tcp_shape) → refused_at h moment k host d ≡ None
-    at (network.Makes m) = rw (not_judging h old) refl
-    at (network.Does x) = rw (not_judging h old) refl
+    at (network.Makes m) = rw (none) refl
+    at (network.Does x) = rw (none) refl
     at (network.Expires line x) = refl
     at (network.Sends line number wire) = refl
     at (network.Gets line copied wire) = refl
@@ -80,14 +80,14 @@ refused_before h moment k (network.At host d) old = at d
     at (network.Drops line) = refl
     at (network.Answers line) = refl
 
-pub dutiful_any : (h : Header) (k : Known) (xs : List (Stamped tcp_shape)) → h.slack ≡ None → says_sender h.version ≡ false → Dutiful h k xs
-dutiful_any h k [] any old = tt
-dutiful_any h k (x ∷ xs) any old = (
+pub dutiful_any : (h : Header) (k : Known) (xs : List (Stamped tcp_shape)) → h.slack ≡ None → judges h ≡ false → Dutiful h k xs
+dutiful_any h k [] any unjudged = tt
+dutiful_any h k (x ∷ xs) any unjudged = (
   record {
     duties = ap first_broken (nothing_judged h x.moment k.duties (observe h x.moment k.model x.step) any);
-    flights = refused_before h x.moment k x.step old;
+    flights = refused_unjudged h x.moment k x.step unjudged;
   },
-  dutiful_any h (known_after h x.moment k x.step) xs any old,
+  dutiful_any h (known_after h x.moment k x.step) xs any unjudged,
 )
 
 pub late_any : (h : Header) (moment : ℕ) (k : Known) → h.slack ≡ None → late_at_end h moment k ≡ None

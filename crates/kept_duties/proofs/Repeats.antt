@@ -3,6 +3,7 @@ use Rattle.std.proofs.Common.{◌≡◌, ℕ, suc, ◌+◌, ◌<◌, ◌≤◌, 
 use Rattle.std.specs.Prelude.{◌&&◌, if◌then◌else◌, max, nat_le, nat_lt, not}
 use Rattle.std.proofs.lemmas.Bool.Decides.{nat_tests}
 use Rattle.case_forms.specs.States.{is_closed}
+use Rattle.case_forms.specs.Versions.{says_sender}
 use Rattle.case_forms.specs.declared.steps.SegmentPlan.{SegmentPlan}
 use Rattle.case_forms.specs.declared.steps.Witness.{Witness}
 use Rattle.case_forms.specs.declared.timer.Timer.TheVariants.{Persist, Rto}
@@ -95,7 +96,7 @@ module _ (t : Trace) (w : Witness) (slack : ℕ) (r : Run t.header slack (length
   owes_of place x me event is shows =
       owes_after t.header slack (known_before t w place) (known_before t w (suc place)) x me (goes_of place x is) event shows
 
-  module _ (judged : judges_repeats t.header.congestion ≡ true) (first second : ℕ) (me : EndpointId) (p q : SegmentPlan) (less : first < second)
+  module _ (old : says_sender t.header.version ≡ false) (judged : judges_repeats t.header.congestion ≡ true) (first second : ℕ) (me : EndpointId) (p q : SegmentPlan) (less : first < second)
       (a : BuildsAgain t w first me p) (b : BuildsAgain t w second me q) (nothing : NothingBegins t w me first second) where
     abbrev again : Known → ℕ
     again k = (owed_by k.duties me.host me.number).again
@@ -159,21 +160,21 @@ module _ (t : Trace) (w : Witness) (slack : ℕ) (r : Run t.header slack (length
         let repeats : is_repeating (seen k.model me) q ≡ true =
         subst (λ (v : World tcp_shape). is_repeating (seen v me) q ≡ true) (sym (world_is t w second)) (repeats_is t w second me q b) in
         at_most q.pos (again k) kept (sym (ap (λ (c : Bool). c && is_repeating (seen k.model me) q && nat_lt q.pos (again k)) judged
-        ∙ ap (λ (c : Bool). true && c && nat_lt q.pos (again k)) repeats) ∙ owes.resent)
+        ∙ ap (λ (c : Bool). true && c && nat_lt q.pos (again k)) repeats) ∙ owes.resent old)
       where
         at_most : (pos n : ℕ) → ends ≤ n → nat_lt pos n ≡ false → ends ≤ pos
         at_most pos n le e = grind (arith, nat_tests, e, le)
 
-  pub nothing_resent_twice : judges_repeats t.header.congestion ≡ true → NothingIsResentTwice t w
-  nothing_resent_twice judged first second me p q less a b nothing = comes_behind judged first second me p q less a b nothing
+  pub nothing_resent_twice : says_sender t.header.version ≡ false → judges_repeats t.header.congestion ≡ true → NothingIsResentTwice t w
+  nothing_resent_twice old judged first second me p q less a b nothing = comes_behind old judged first second me p q less a b nothing
 
-  pub repeats_within : judges_windows t.header.congestion ≡ true → RepeatsStayWithin t w
-  repeats_within judged place moment me m a some low =
+  pub repeats_within : says_sender t.header.version ≡ false → judges_windows t.header.congestion ≡ true → RepeatsStayWithin t w
+  repeats_within old judged place moment me m a some low =
       let k = known_before t w place in
       let owes = owes_of place a.act me (Builds m) a.is (happens_to t w place moment me (Builds m) a) in
       at_most (seen_before t w place me) some low
       (subst (λ (v : World tcp_shape). (judges_windows t.header.congestion && nat_lt 0 m.len && nat_le (m.pos + m.len) (seen v me).snd_max
-      && nat_lt (seen v me).congestion_edge (m.pos + m.len)) ≡ false) (world_is t w place) owes.beyond)
+      && nat_lt (seen v me).congestion_edge (m.pos + m.len)) ≡ false) (world_is t w place) (owes.beyond old))
     where
       at_most : (v : View) → 0 < m.len → m.pos + m.len ≤ v.snd_max
           → (judges_windows t.header.congestion && nat_lt 0 m.len && nat_le (m.pos + m.len) v.snd_max && nat_lt v.congestion_edge (m.pos + m.len)) ≡ false

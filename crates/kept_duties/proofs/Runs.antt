@@ -110,7 +110,7 @@ module _ (h : Header) (lines : List Line) where
   keeps_first : (k : Known) (act : Option (Stamped tcp_shape)) (rest : List (Stamped tcp_shape)) → Keeps k (cons_option act rest)
       → (x : Stamped tcp_shape) → act ≡ Some x → Breaks_none k x
   keeps_first k None rest may x is = absurd (none-some x is)
-  keeps_first k (Some y) rest may x is = subst (Breaks_none k) (same_Some y x is) (may.0.0, may.1.0)
+  keeps_first k (Some y) rest may x is = subst (Breaks_none k) (same_Some y x is) (may.0.0, may.1.0.duties)
 
   keeps_at : (k : Known) (steps : List Step) → Keeps k (stamped h lines steps) → (place : ℕ) (s : Step) → slice_get steps place ≡ Some s
       → (x : Stamped tcp_shape) → act_of h lines s ≡ Some x → Breaks_none (known_from k steps place) x

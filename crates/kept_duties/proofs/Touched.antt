@@ -8,6 +8,7 @@ use Rattle.std.specs.Option.{option_map, option_map_or}
 use Rattle.std.proofs.lemmas.Bool.Decides.{nat_tests}
 use Rattle.std.proofs.lemmas.Option.{none-some, same_Some, slice_get_past}
 use Rattle.indexmap.specs.IndexMap.{insert_entry}
+use Rattle.case_forms.specs.Versions.{says_sender}
 use Rattle.case_forms.specs.declared.version.Version.{Version}
 use Rattle.case_forms.specs.declared.calls.Answer.{Answer}
 use Rattle.case_forms.specs.declared.calls.Answer.TheVariants as answers
@@ -341,8 +342,8 @@ pub record Owes (h : Header) (slack : ℕ) (k next : Known) (x : Stamped tcp_sha
   pub listens : listener ≡ listener_closed k.duties me.host (seen k.model me)
   pub brought : Option ℕ
   pub lates : AllByRecursion (λ r. r.1 ≡ false) (late_rules (judged_lates h slack x.moment k.duties brought me.host me.number (seen k.model me)))
-  pub resent : is_resent h.congestion event (seen k.model me) (owed_by k.duties me.host me.number).again ≡ false
-  pub beyond : is_resent_beyond h.congestion event (seen k.model me) ≡ false
+  pub resent : says_sender h.version ≡ false → is_resent h.congestion event (seen k.model me) (owed_by k.duties me.host me.number).again ≡ false
+  pub beyond : says_sender h.version ≡ false → is_resent_beyond h.congestion event (seen k.model me) ≡ false
   pub excess : is_excess counts (owed_by k.duties me.host me.number).answers ≡ false
   pub after : owed_by next.duties me.host me.number
       ≡ owed_after event (seen k.model me) (seen next.model me) x.moment listener counts (owed_by k.duties me.host me.number)
@@ -375,8 +376,11 @@ module _ (h : Header) (slack : ℕ) (k next : Known) (x : Stamped tcp_shape) (me
         listens = refl;
         brought = brought_by (sent_by k.duties shown.built_change);
         lates = (here.0, (here.1.0, (here.1.1.0, (here.1.1.1.0, (here.1.1.1.1.0, (here.1.1.1.1.1.0, tt))))));
-        resent = here.1.1.1.1.1.1.0;
-        beyond = here.1.1.1.1.1.1.1.0;
+        resent = λ old.
+            sym (ap (λ (b : Bool). not b && is_resent h.congestion event (seen k.model me) (owed_by k.duties me.host me.number).again) old)
+            ∙ here.1.1.1.1.1.1.0;
+        beyond = λ old.
+            sym (ap (λ (b : Bool). not b && is_resent_beyond h.congestion event (seen k.model me)) old) ∙ here.1.1.1.1.1.1.1.0;
         excess =
             first (is_excess counts (owed_by k.duties me.host me.number).answers)
             (sends_in_excess h slack k.duties (sent_by k.duties shown.built_change) (touched k.model me event)) here.1.1.1.1.1.1.1.1.0;

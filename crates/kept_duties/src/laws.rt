@@ -54,17 +54,18 @@ pub fn events_are_steps()
         → StepsAreEvents t w }
 {}
 
-/// Between two expiries or the like, an endpoint built no position twice again, unless the header says
-/// `congestion none` (RFC 6298, 5.4 and 5.5; RFC 5681, 3.2).
+/// In versions 1 to 5, between two expiries or the like, an endpoint built no position twice again, unless the header
+/// says `congestion none` (RFC 6298, 5.4 and 5.5; RFC 5681, 3.2).
 pub fn nothing_is_resent_twice()
     ensures { (t : Trace) (w : Witness) (slack : ℕ) → Explains t w → t.header.slack ≡ Some slack
-        → t.header.congestion ≢ NoControl → NothingIsResentTwice t w }
+        → says_sender t.header.version ≡ false → t.header.congestion ≢ NoControl → NothingIsResentTwice t w }
 {}
 
-/// Bytes that are built again end within the congestion window, if the header says `congestion full` (RFC 5681, 3.1).
+/// In versions 1 to 5, bytes that are built again end within the congestion window, if the header says
+/// `congestion full` (RFC 5681, 3.1).
 pub fn repeats_stay_within()
     ensures { (t : Trace) (w : Witness) (slack : ℕ) → Explains t w → t.header.slack ≡ Some slack
-        → t.header.congestion ≡ Full → RepeatsStayWithin t w }
+        → says_sender t.header.version ≡ false → t.header.congestion ≡ Full → RepeatsStayWithin t w }
 {}
 
 /// At each moment, an endpoint had sent at most as many mere acknowledgments as segments had come to it: empty ones at

@@ -24,6 +24,7 @@ use Rattle.spec_merge.proofs.Joint.{LinesRise}
 use Rattle.spec_merge.proofs.Law.{law}
 use Rattle.spec_merge.proofs.Merged.{is_placed_run}
 use Rattle.spec_merge.proofs.Order.{told}
+use Rattle.spec_flights.specs.Flights.{judges}
 use Rattle.stack_core.specs.Entries.{steps_in}
 use Rattle.stack_core.specs.Recordings.{Recorded}
 use Rattle.recorder.specs.Faults.{NamesAll}
@@ -132,12 +133,12 @@ merged_is h zs os =
     ∙ steps_are h (names_of (tcp h) (first_event_line h) (in_order zs os)) (in_order zs os)
     ∙ ap (λ (xs : List TcpEntry). steps_of (tcp h) (names_of (tcp h) (first_event_line h) xs) xs) (order_is h zs os)
 
-told_by : (t : Trace) (w : Witness) (zs os : List TcpEntry) → is_half t.header.version ≡ false → t.header.slack ≡ None → w.version ≡ t.header.version
+told_by : (t : Trace) (w : Witness) (zs os : List TcpEntry) → is_half t.header.version ≡ false → t.header.slack ≡ None → judges t.header ≡ false → w.version ≡ t.header.version
     → t.lines ≡ lines_said (all_renumbered (new_names t.header (in_order zs os)) (in_order zs os))
     → w.steps ≡ steps_said (all_renumbered (new_names t.header (in_order zs os)) (in_order zs os))
     → Books (tcp t.header) (first_event_line t.header) zs os
     → Tells t w (merged t.header (first_event_line t.header) zs os)
-told_by t w zs os both any version lines_is steps_is books =
+told_by t w zs os both any unjudged version lines_is steps_is books =
     let h = t.header in
     let first = first_event_line t.header in
     let xs = merged t.header (first_event_line t.header) zs os in
@@ -158,19 +159,20 @@ told_by t w zs os both any version lines_is steps_is books =
           subst (λ (ls : List Line). AllTakeWell h ls w.steps) (sym lines_eq)
           (subst (λ (ss : List witness.Step). AllTakeWell h (lines_said xs) ss) (sym steps_eq) from.1);
       slack = any;
+      judged = unjudged;
       steps_are = ap (λ (ls : List Line). stamped h ls w.steps) lines_eq ∙ ap (λ (ss : List witness.Step). stamped h (lines_said xs) ss) steps_eq ∙ from.0;
       lines_are = ap (map line_told) lines_eq ∙ lines_are h both xs whole;
     }
 
 -- the same for a trace that has this header
-pub told_as : (h : Header) (t : Trace) (w : Witness) (zs os : List TcpEntry) → is_half h.version ≡ false → h.slack ≡ None → t.header ≡ h → w.version ≡ h.version
+pub told_as : (h : Header) (t : Trace) (w : Witness) (zs os : List TcpEntry) → is_half h.version ≡ false → h.slack ≡ None → judges h ≡ false → t.header ≡ h → w.version ≡ h.version
     → t.lines ≡ lines_said (all_renumbered (new_names h (in_order zs os)) (in_order zs os))
     → w.steps ≡ steps_said (all_renumbered (new_names h (in_order zs os)) (in_order zs os))
     → Books (tcp h) (first_event_line h) zs os
     → Tells t w (merged h (first_event_line h) zs os)
-told_as h t w zs os both any is version lines_is steps_is books =
+told_as h t w zs os both any unjudged is version lines_is steps_is books =
     subst (λ (g : Header). Tells t w (merged g (first_event_line g) zs os)) is
-    (told_by t w zs os (ap (λ (g : Header). is_half g.version) is ∙ both) (ap (λ (g : Header). g.slack) is ∙ any)
+    (told_by t w zs os (ap (λ (g : Header). is_half g.version) is ∙ both) (ap (λ (g : Header). g.slack) is ∙ any) (ap judges is ∙ unjudged)
     (version ∙ ap (λ (g : Header). g.version) (sym is))
     (lines_is ∙ ap (λ (g : Header). lines_said (all_renumbered (new_names g (in_order zs os)) (in_order zs os))) (sym is))
     (steps_is ∙ ap (λ (g : Header). steps_said (all_renumbered (new_names g (in_order zs os)) (in_order zs os))) (sym is))

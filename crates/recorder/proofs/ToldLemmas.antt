@@ -372,5 +372,5 @@ told_explains t w steps e told =
     Placement (tcp t.header) t.header.skew (first_event_line t.header) ls (stamped t.header t.lines w.steps))
     (sym tells.lines_are)
     (subst (λ (xs : List (Stamped tcp_shape)). Placement (tcp t.header) t.header.skew (first_event_line t.header) (lines_of (tcp t.header) xs) xs) seen e.0) in
-    explained_by_model t w told.slack (is_placed t w tells placement) placement.turns
+    explained_by_model t w told.slack told.judged (is_placed t w tells placement) placement.turns
     (subst (λ (xs : List (Stamped tcp_shape)). Lawful (tcp t.header) (start (tcp t.header)) xs) seen e.1)

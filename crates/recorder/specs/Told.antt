@@ -17,6 +17,7 @@ use Rattle.spec_network.specs.Hosts.{Stamped}
 use Rattle.spec_merge.specs.Keys.{rank}
 use Rattle.spec_merge.specs.Placing as placing
 use Rattle.spec_tcp.specs.Machine.{tcp, tcp_shape}
+use Rattle.spec_flights.specs.Flights.{judges}
 use Rattle.checker.specs.Seen.{stamped}
 
 -- what an event of that thread is to the model, for which the threads of segments and timers don't exist
@@ -51,6 +52,8 @@ pub record Tells (t : Trace) (w : Witness) (steps : List (Stamped tcp_shape)) : 
   pub version : t.header.version ≡ w.version
   -- duties aren't judged
   pub slack : t.header.slack ≡ None
+  -- nor is which data goes again
+  pub judged : judges t.header ≡ false
   pub takes : AllTakeWell t.header t.lines w.steps
   pub steps_are : stamped t.header t.lines w.steps ≡ steps
   pub lines_are : map line_told t.lines ≡ placing.lines_of (tcp t.header) steps

@@ -7,6 +7,7 @@ ghost use Rattle.case_forms.specs.Versions.{is_half};
 ghost use Rattle.spec_tcp.specs.Machine.{tcp};
 ghost use Rattle.spec_merge.specs.Keys.{Books};
 ghost use Rattle.spec_merge.specs.Recordings.{merged};
+ghost use Rattle.spec_flights.specs.Flights.{judges};
 ghost use Rattle.witness.specs.Printable.{TellShifts};
 ghost use Rattle.checker.specs.Explains.{Explains, IsYes};
 ghost use Rattle.checker.specs.Verdicts.{verdict};
@@ -27,6 +28,7 @@ pub fn merge(alloc: Global, zero: HostBook, one: HostBook) -> Result<Recorded, M
     requires headers { zero.core.recorded.header ≡ one.core.recorded.header }
     requires whole { is_half zero.core.recorded.header.version ≡ false }
     requires slack { zero.core.recorded.header.slack ≡ None }
+    requires judged { judges zero.core.recorded.header ≡ false }
     ensures header { IfOk result (λ r. r.trace.header ≡ zero.core.recorded.header) }
     ensures told { IfOk result (λ r.
         Tells r.trace r.witness (merged zero.core.recorded.header (first_event_line zero.core.recorded.header)

@@ -7,6 +7,7 @@ ghost use Rattle.case_forms.specs.Versions.{is_half};
 ghost use Rattle.spec_tcp.specs.Machine.{tcp};
 ghost use Rattle.spec_merge.specs.Keys.{Books};
 ghost use Rattle.spec_merge.specs.Recordings.{merged};
+ghost use Rattle.spec_flights.specs.Flights.{judges};
 ghost use Rattle.stack_core.specs.Entries.{steps_in};
 ghost use Rattle.stack_core.specs.Told.{AllTold};
 ghost use Rattle.witness.specs.Printable.{TellShifts};
@@ -95,6 +96,7 @@ pub fn merge_recordings(
     requires headers { zero.now.header ≡ one.now.header }
     requires whole { is_half zero.now.header.version ≡ false }
     requires slack { zero.now.header.slack ≡ None }
+    requires judged { judges zero.now.header ≡ false }
     requires few { steps_in zero.now.entries + steps_in one.now.entries ≤ 100000000 }
     requires above { AllAbove zero.now.entries × AllAbove one.now.entries }
     ensures header { IfOk result (λ r. r.trace.header ≡ zero.now.header) }

@@ -2,7 +2,6 @@
 use Rattle.std.specs.Prelude.{◌≡◌, ◌≤◌, ℕ, suc, false, if◌then◌else◌, List, [], ◌∷◌, Option, None, Some}
 use Rattle.std.specs.List.{AllByRecursion}
 use Rattle.case_forms.specs.declared.calls.Host.{Host}
-use Rattle.case_forms.specs.Versions.{says_sender}
 use Rattle.case_forms.specs.declared.trace.Header.{Header}
 use Rattle.verdict.specs.Rules.{first_broken}
 use Rattle.spec_network.specs.Hosts.{Stamped, World}
@@ -10,7 +9,7 @@ use Rattle.spec_network.specs.Tables.{pick}
 use Rattle.spec_tcp.specs.Machine.{tcp_shape}
 use Rattle.spec_duties.specs.Credits.{is_credit_from}
 use Rattle.spec_duties.specs.Watching.{Duties}
-use Rattle.spec_flights.specs.Flights.{Flights}
+use Rattle.spec_flights.specs.Flights.{Flights, judges}
 use Rattle.spec_cases.specs.Cases.{Known, Dutiful, judged_rules, late_at_end, noted_by}
 use Rattle.spec_duties.specs.declared.observations.Observation.{Observation}
 
@@ -61,9 +60,9 @@ SlackIsHardlyNoted =
     → HasMoreCredits (noted_by (with_slack (Some less) h) moment w s few)
     (noted_by (with_slack (Some more) h) moment w s many)
 
--- without a slack no duty is judged, and in versions 1 to 5 nothing but the model
+-- without a slack no duty is judged, and nothing but the model where data in flight isn't judged, either
 pub record NothingIsJudged : Type 0 where
   pub rules : (h : Header) (moment : ℕ) (d : Duties) (s : Observation) → h.slack ≡ None → judged_rules h moment d s ≡ []
-  pub runs : (h : Header) (k : Known) (xs : List (Stamped tcp_shape)) → h.slack ≡ None → says_sender h.version ≡ false
+  pub runs : (h : Header) (k : Known) (xs : List (Stamped tcp_shape)) → h.slack ≡ None → judges h ≡ false
       → Dutiful h k xs
   pub end : (h : Header) (moment : ℕ) (k : Known) → h.slack ≡ None → late_at_end h moment k ≡ None

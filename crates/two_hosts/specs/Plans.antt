@@ -1,12 +1,14 @@
 -- What both hosts of a recording begin with.
-use Rattle.std.specs.Prelude.{◌≡◌, None}
+use Rattle.std.specs.Prelude.{◌≡◌, if◌then◌else◌, None}
+use Rattle.case_forms.specs.Versions.{says_sender}
 use Rattle.case_forms.specs.declared.version.Growth.TheVariants.{OneSegment}
 use Rattle.case_forms.specs.declared.version.Sender.TheVariants.{Reno}
 use Rattle.case_forms.specs.declared.calls.Host.TheVariants as hosts
 use Rattle.case_forms.specs.declared.trace.Header.{Header}
 use Rattle.case_forms.specs.declared.version.Initial.{Initial}
 use Rattle.case_forms.specs.declared.version.Initial.TheVariants.{Rfc5681, Rfc6928}
-use Rattle.case_forms.specs.declared.version.Judged.TheVariants.{Full}
+use Rattle.case_forms.specs.declared.version.Judged.{Judged}
+use Rattle.case_forms.specs.declared.version.Judged.TheVariants.{Full, NoControl}
 use Rattle.case_forms.specs.declared.version.Version.{Version}
 use Rattle.case_forms.specs.declared.version.Version.TheVariants.{One, Two, Three, Four, FourHalf, Five, FiveHalf, Six}
 use Rattle.case_forms.specs.declared.version.Version.TheVariants.{SixHalf}
@@ -24,6 +26,10 @@ initial_of FiveHalf = Rfc6928
 initial_of Six = Rfc6928
 initial_of SixHalf = Rfc6928
 
+-- all of congestion control is judged, where a text can say so
+abbrev pub congestion_of : Version → Judged
+congestion_of version = if says_sender version then NoControl else Full
+
 -- times in microseconds: no skew, a segment lives at most an hour, timers may be a millisecond early, and RTO is at
 -- least 200 milliseconds
 abbrev pub header_of : Version → Header
@@ -36,7 +42,7 @@ header_of version =
       minrto = 200000;
       extra = 1;
       initial = initial_of version;
-      congestion = Full;
+      congestion = congestion_of version;
       slack = None;
       sender = Reno;
       growth = OneSegment;

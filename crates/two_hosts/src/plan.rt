@@ -1,7 +1,7 @@
 //! The plan of a recording, and what both hosts begin with.
 
 ghost use Rattle.std.specs.Prelude.{◌≡◌};
-ghost use Rattle.two_hosts.specs.Plans.{header_of};
+ghost use Rattle.two_hosts.specs.Plans.{congestion_of, header_of};
 
 use case_forms::{Growth, Header, Initial, Judged, Sender, Version};
 use recorder::CoreConfig;
@@ -38,6 +38,17 @@ pub struct Plan {
     pub version: Version,
 }
 
+// How much of congestion control is judged: all, where a text can say so.
+fn congestion_of(version: Version) -> Judged
+    ensures { result ≡ congestion_of version }
+{
+    if version.says_sender() {
+        Judged::NoControl
+    } else {
+        Judged::Full
+    }
+}
+
 /// The header of a recording. Version 2 has the initial window of RFC 6928.
 pub(crate) fn header_of(version: Version) -> Header
     ensures { result ≡ header_of version }
@@ -60,7 +71,7 @@ pub(crate) fn header_of(version: Version) -> Header
             | Version::Six
             | Version::SixHalf => Initial::Rfc6928,
         },
-        congestion: Judged::Full,
+        congestion: congestion_of(version),
         slack: None,
         sender: Sender::Reno,
         growth: Growth::OneSegment,

@@ -37,7 +37,7 @@ use Rattle.spec_duties.specs.Answering.{Waits, beginning, waits_after}
 use Rattle.spec_duties.specs.declared.answering.CallChange.{CallChange}
 use Rattle.spec_duties.specs.Observations.{observe, observe_turn, unseen, view_in}
 use Rattle.spec_duties.specs.Watching.{Duties, duty_rules, duties_after}
-use Rattle.duties.proofs.SlackLemmas.{refused_before}
+use Rattle.duties.proofs.SlackLemmas.{not_judging, refused_unjudged}
 use Rattle.spec_flights.specs.Flights.{Flights, flights_after, refusal}
 use Rattle.spec_cases.specs.Cases.{Known, Watched, after, asked_after, asked_rules, broken_by, forget, flown, case_rules, judged_rules}
 use Rattle.spec_cases.specs.Cases.{known_after, model_rules, noted_by, refused_at, refused_by, watch_rules, with_refusal, with_waits}
@@ -315,7 +315,7 @@ plain_rules p fs d moment None is = refl
 plain_rules p fs d moment (Some step) is =
     let model = step_rules (tcp p.header) moment p.world step in
     ap (λ (o : Option Rule). first_broken (with_refusal o model ++ watch_rules p.header moment (known_of p fs d) step))
-    (refused_before p.header moment (known_of p fs d) step is.0)
+    (refused_unjudged p.header moment (known_of p fs d) step (not_judging p.header is.0))
     ∙ first_broken-then_none model (watch_rules p.header moment (known_of p fs d) step) (nothing_judged p.header moment p.world d step is.1)
 
 pub plain_line_admits : {A : Type 0} (r : Result A StepFault) (p : Progress) (fs : Flights) (d : Duties) (moment : ℕ) (asked : Option (Step tcp_shape))

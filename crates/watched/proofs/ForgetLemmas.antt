@@ -50,6 +50,7 @@ use Rattle.spec_duties.specs.declared.owed.Lates.{Lates}
 use Rattle.spec_duties.specs.declared.views.View.{View}
 use Rattle.spec_duties.specs.Dropped.{bare, droppable_by, discards_at, earns_by_dropping, earns_by_taking, is_old, taking_breaks, answering_breaks}
 use Rattle.spec_duties.specs.Sampling.{may_measure, sampling_at}
+use Rattle.spec_duties.specs.Observations.{syn_dropped, syn_sent, syn_taken}
 use Rattle.spec_duties.specs.Observations.{observe, observe_host_step, at_place, at_ports, at_next, at_sender, at_target, at_drop, unseen}
 use Rattle.spec_duties.specs.Observations.{processing_of, sending_of, accepting, observe_accept, observe_close, observe_other, observe_opened, on_target}
 use Rattle.spec_duties.specs.Observations.{observe_call, observe_pending, observe_effect, observe_taking, observe_dropping, view_in}
@@ -131,6 +132,16 @@ earning_drop-forget v m taking Nobody = refl
 earning_drop-forget v m taking (AtListener l) = refl
 earning_drop-forget v m taking (AtEndpoint i e) = rw (rcv_nxt-forget e) refl
 
+syn-forget : (v : Version) (m : Emission) (t : Taker) → syn_taken v m (forget_taker t) ≡ syn_taken v m t
+syn-forget v m Nobody = refl
+syn-forget v m (AtListener l) = refl
+syn-forget v m (AtEndpoint i e) = refl
+
+syn_drop-forget : (v : Version) (m : Emission) (t : Taker) → syn_dropped v m (forget_taker t) ≡ syn_dropped v m t
+syn_drop-forget v m Nobody = refl
+syn_drop-forget v m (AtListener l) = refl
+syn_drop-forget v m (AtEndpoint i e) = refl
+
 sender-seen : (host : Host) (b : HostTcp) (wire : Wire) (m : Emission) → at_sender host (forget_body b) wire m ≡ at_sender host b wire m
 sender-seen host b wire m = rw (place-seen host b (sending_of wire m) m.sender.number) refl
 
@@ -148,14 +159,14 @@ host_step-seen h moment w fresh host s (network.Expires line x) = rw (ports-seen
 host_step-seen h moment w fresh host s (network.Makes m) = rw (ports-seen host s.body _ m.lport m.rport) refl
 host_step-seen h moment w fresh host s (network.Sends line number wire) = by (lookup (nat_eq number) s.made)
   where
-    see : Option TouchedEndpoint → Observation
-    see t = record unseen { touched = t; built_change = Sends number }
+    see : Emission → Option TouchedEndpoint → Observation
+    see m t = record unseen { touched = t; built_change = Sends number; syn_change = syn_sent h.version m wire.bytes }
 
     by : (o : Option (Made Emission))
-        → on o unseen (λ m. see (at_sender host (forget_body s.body) wire m.emission))
-        ≡ on o unseen (λ m. see (at_sender host s.body wire m.emission))
+        → on o unseen (λ m. see m.emission (at_sender host (forget_body s.body) wire m.emission))
+        ≡ on o unseen (λ m. see m.emission (at_sender host s.body wire m.emission))
     by None = refl
-    by (Some m) = ap see (sender-seen host s.body wire m.emission)
+    by (Some m) = ap (see m.emission) (sender-seen host s.body wire m.emission)
 host_step-seen h moment w fresh host s (network.Gets line copied wire) = refl
 host_step-seen h moment w fresh host s (network.Hears line wire) = refl
 host_step-seen h moment w fresh host s (network.Takes line how) = by (waiting line s.inbox)
@@ -172,6 +183,7 @@ host_step-seen h moment w fresh host s (network.Takes line how) = by (waiting li
           discards-forget h how m (taker s.body m),
           sampling-forget h how m (taker s.body m),
           earning-forget h m (taker s.body m),
+          syn-forget h.version m (taker s.body m),
         ) refl
 host_step-seen h moment w fresh host s (network.Drops line) =
     rw (taking-forget h moment w host line, answering-forget h w host line) (by (waiting line s.inbox))
@@ -188,6 +200,7 @@ host_step-seen h moment w fresh host s (network.Drops line) =
           old-forget h.version m (taker s.body m),
           drop-seen h.version host s.body m (taking_breaks h moment w host line) (taker s.body m),
           earning_drop-forget h.version m (taking_breaks h moment w host line) (taker s.body m),
+          syn_drop-forget h.version m (taker s.body m),
         ) refl
 host_step-seen h moment w fresh host s (network.Answers line) = refl
 

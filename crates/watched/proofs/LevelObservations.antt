@@ -50,6 +50,7 @@ use Rattle.spec_tcp_laws.proofs.JudgedRules.{MayJudge}
 use Rattle.spec_tcp_laws.proofs.JudgedWorlds.{aim_same, may_judge}
 use Rattle.spec_duties.specs.Dropped.{answering_breaks, bare, discards_at, droppable_by, earns_by_dropping, earns_by_taking, is_old, taking_breaks}
 use Rattle.spec_duties.specs.Sampling.{sampling_at}
+use Rattle.spec_duties.specs.Observations.{syn_dropped, syn_sent, syn_taken}
 use Rattle.spec_duties.specs.Observations.{observe_accept, accepting, at_drop, at_next, at_place, at_ports, at_sender, at_target, observe_call, observe_close}
 use Rattle.spec_duties.specs.Observations.{observe_host_step, observe_dropping, observe_effect, is_done, on_target, observe_opened, observe_other}
 use Rattle.spec_duties.specs.Answering.{answering, beginning, judged_call, judged_socket, socket_changing}
@@ -213,6 +214,16 @@ earning_same p h m Nobody = refl
 earning_same p h m (AtListener l) = refl
 earning_same p h m (AtEndpoint i e) = refl
 
+syn_same : (p : Profile) (v : Version) (m : Emission) (t : Taker) → syn_taken v m (taker_by p t) ≡ syn_taken v m t
+syn_same p v m Nobody = refl
+syn_same p v m (AtListener l) = refl
+syn_same p v m (AtEndpoint i e) = refl
+
+syn_drop_same : (p : Profile) (v : Version) (m : Emission) (t : Taker) → syn_dropped v m (taker_by p t) ≡ syn_dropped v m t
+syn_drop_same p v m Nobody = refl
+syn_drop_same p v m (AtListener l) = refl
+syn_drop_same p v m (AtEndpoint i e) = refl
+
 earning_drop_same : (p : Profile) (v : Version) (m : Emission) (taking : Option Rule) (t : Taker)
     → earns_by_dropping v m taking (taker_by p t) ≡ earns_by_dropping v m taking t
 earning_drop_same p v m taking Nobody = refl
@@ -244,13 +255,14 @@ host_step_seen p j h moment w fresh host s (network.Makes m) may =
     shown (observe_host_step h moment w fresh host s (network.Makes m)) _ (ports_seen p host s.body _ m.lport m.rport may)
 host_step_seen p j h moment w fresh host s (network.Sends line number wire) may = by (lookup (nat_eq number) s.made)
   where
-    see : Option TouchedEndpoint → Observation
-    see t = record unseen { touched = t; built_change = Sends number }
+    see : Emission → Option TouchedEndpoint → Observation
+    see m t = record unseen { touched = t; built_change = Sends number; syn_change = syn_sent h.version m wire.bytes }
 
     by : (o : Option (Made Emission))
-        → ShowsHigher (on o unseen (λ m. see (at_sender host s.body wire m.emission))) (on o unseen (λ m. see (at_sender host (body_by p s.body) wire m.emission)))
+        → ShowsHigher (on o unseen (λ m. see m.emission (at_sender host s.body wire m.emission)))
+        (on o unseen (λ m. see m.emission (at_sender host (body_by p s.body) wire m.emission)))
     by None = shows_same unseen refl
-    by (Some m) = shown (see (at_sender host s.body wire m.emission)) _ (sender_seen p host s.body wire m.emission may)
+    by (Some m) = shown (see m.emission (at_sender host s.body wire m.emission)) _ (sender_seen p host s.body wire m.emission may)
 host_step_seen p j h moment w fresh host s (network.Gets line copied wire) may =
     shows_same (observe_host_step h moment w fresh host s (network.Gets line copied wire)) refl
 host_step_seen p j h moment w fresh host s (network.Hears line wire) may = shows_same (observe_host_step h moment w fresh host s (network.Hears line wire)) refl
@@ -269,6 +281,7 @@ host_step_seen p j h moment w fresh host s (network.Takes line how) may = by (wa
           discards_same p h how m (taker s.body m),
           sampling_same p h how m (taker s.body m),
           earning_same p h m (taker s.body m),
+          syn_same p h.version m (taker s.body m),
         )
         (shown (see s.body m (taker s.body m)) _ (target_seen p host s.body m (taker s.body m) may))
 host_step_seen p j h moment w fresh host s (network.Drops line) may =
@@ -290,6 +303,7 @@ host_step_seen p j h moment w fresh host s (network.Drops line) may =
           droppable_same p h.version s.body m (taker s.body m),
           old_same p h.version m (taker s.body m),
           earning_drop_same p h.version m taking (taker s.body m),
+          syn_drop_same p h.version m (taker s.body m),
         )
         (shown (observe_dropping h.version host s.body line taking answering m (taker s.body m)) _
         (drop_seen p h.version host s.body m taking (taker s.body m) may))

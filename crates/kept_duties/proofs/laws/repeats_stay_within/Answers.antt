@@ -5,5 +5,5 @@ use Rattle.kept_duties.proofs.Runs.{run_of}
 use Rattle.kept_duties.proofs.laws.repeats_stay_within.Goals as goal
 
 pub returns : goal.returns
-returns c = λ t w slack e given judged.
-    repeats_within t w slack (run_of t w slack given e.run e.duties) (ap judges_windows judged)
+returns c = λ t w slack e given old judged.
+    repeats_within t w slack (run_of t w slack given e.run e.duties) old (ap judges_windows judged)

@@ -29,7 +29,7 @@ returns-in-Some-clause-beside c =
 pub returns-clause-told : goal.returns-clause-told
 returns-clause-told c =
     told_as c.args.zero.now.header c.in_ok-recorded.recorded.trace c.in_ok-recorded.recorded.witness
-    c.args.zero.now.entries c.args.one.now.entries c.requires.whole c.requires.slack c.in_ok-recorded.ensures.header
+    c.args.zero.now.entries c.args.one.now.entries c.requires.whole c.requires.slack c.requires.judged c.in_ok-recorded.ensures.header
     c.in_ok-recorded.ensures.version c.in_ok-recorded.ensures.lines
     c.in_ok-recorded.ensures.steps
     (beside_books c.books_grow.ensures.finished c.args.zero.now c.args.one.now
@@ -52,7 +52,7 @@ returns-clause-explains c =
     (rw c.in_default.is at c.in_ok-arrival_line.ensures.none).1) in
     let tells =
     told_as c.args.zero.now.header c.in_ok-recorded.recorded.trace c.in_ok-recorded.recorded.witness
-    c.args.zero.now.entries c.args.one.now.entries c.requires.whole c.requires.slack c.in_ok-recorded.ensures.header
+    c.args.zero.now.entries c.args.one.now.entries c.requires.whole c.requires.slack c.requires.judged c.in_ok-recorded.ensures.header
     c.in_ok-recorded.ensures.version c.in_ok-recorded.ensures.lines c.in_ok-recorded.ensures.steps books in
     let same = c.in_ok-recorded.ensures.header in
     c.what_is_told_explains.ensures.books c.in_ok-recorded.recorded.trace c.in_ok-recorded.recorded.witness c.args.zero.now.entries c.args.one.now.entries
