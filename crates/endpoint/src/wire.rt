@@ -125,6 +125,7 @@ fn sent_ack(segment: &Segment, m: &Emission) -> bool
 
 // What a line shows of the acknowledgment: whether there is one, the position that it acknowledges, its number, and how
 // far text of the moment raised it.
+#[derive(Drop)]
 struct Shown {
     ack: bool,
     position: u64,
@@ -233,7 +234,10 @@ fn with_bytes(
         seq: m.seq,
         ack_seq: shown.number,
         raised: shown.raised,
-        flags: Flags { ack: shown.ack, ..m.flags },
+        flags: Flags {
+            ack: shown.ack,
+            ..m.flags
+        },
         window: m.window,
         payload,
         shift: m.shift,
