@@ -50,7 +50,8 @@ close_kept p e = by (is_syn_sent e.state)
   where
     by : (b : Bool)
         → (let x : Endpoint =
-        record (if b then shut_down (record (endpoint_by p e) { stream = record (endpoint_by p e).stream { ended = true } }) else after_ending (endpoint_by p e))
+        record (if b then shut_down (record (endpoint_by p e) { stream = record (endpoint_by p e).stream { ended = true } })
+        else after_ending (endpoint_by p e))
         { closed = true } in x)
         ≡ endpoint_by p (record (if b then shut_down (record e { stream = record e.stream { ended = true } }) else after_ending e) { closed = true })
     by true = refl

@@ -32,7 +32,8 @@ use Rattle.spec_tcp.specs.HostTcp.{HostTcp, given, socket_target, queue_of, with
 use Rattle.case_forms.specs.States.{is_syn_sent, is_syn_received}
 use Rattle.spec_tcp.specs.Calls.Send.{after_send}
 use Rattle.spec_tcp.specs.Calls.Receive.{after_recv}
-use Rattle.spec_tcp.specs.Calls.Close.{shut_down, ended_state, after_ending, after_shut, after_close, after_abort, orphaned, without_listener, target_gone, after_gone}
+use Rattle.spec_tcp.specs.Calls.Close.{shut_down, ended_state, after_ending, after_shut, after_close, after_abort, orphaned, without_listener}
+use Rattle.spec_tcp.specs.Calls.Close.{target_gone, after_gone}
 use Rattle.spec_tcp.specs.Calls.Accept.{accepted_from, after_accept}
 use Rattle.spec_tcp.specs.Calls.{change_target, change, after_call}
 use Rattle.case_forms.specs.declared.steps.SegmentPlan.{SegmentPlan}

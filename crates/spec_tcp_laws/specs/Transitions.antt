@@ -55,7 +55,7 @@ fin_leads state _ = false
 abbrev pub StaysOr : (State → State → Bool) → State → State → Type 0
 StaysOr leads s t = (t ≡ s) ⊎ (leads s t ≡ true)
 
--- the socket number that a call closes, that it aborts, and that it closes or aborts: `shut` of a listener closes it, too
+-- the socket number that a call closes, that it aborts, and that it closes or aborts; `shut` closes a listener, too
 abbrev pub closed_number : Call → Option ℕ
 closed_number (calls.Shut n) = Some n
 closed_number (calls.Close n) = Some n

@@ -1,6 +1,6 @@
 //! The answer that a call has now, if it has one: never `again`.
 
-ghost use Rattle.std.specs.Prelude.{◌≡◌, ℕ, true, false, is_some, slice_get, None, Some, IfNone, IfOk};
+ghost use Rattle.std.specs.Prelude.{◌≡◌, ℕ, true, false, is_some, slice_get, Some, IfNone, IfOk};
 ghost use Rattle.std.specs.Option.{IfSome};
 ghost use Rattle.case_forms.specs.declared.calls.Answer.TheVariants as answers;
 ghost use Rattle.spec_tcp.specs.HostTcp.{has_ended, queue_of};
@@ -117,7 +117,7 @@ fn at_ended(call: &Call) -> Answer
     requires socket { IsOnSocket call.now }
     ensures some { ended_allows call.now result ≡ true }
     ensures once { is_again result ≡ false }
-    ensures gives { gives call.now result ≡ None }
+    ensures gives { (n : ℕ) → gives call.now result ≡ Some n → ⊥ }
 {
     match call {
         Call::Close(_) | Call::Abort(_) => Answer::Done,

@@ -52,8 +52,8 @@ fn open_allows(version: Version, queue: &Queue, call: &Call, answer: &Answer) ->
     }
 }
 
-/// Whether `shut` of an open listener may have this answer, in a text of this version: from version 6 on, it may end the
-/// listener (RFC 9293, 3.10.4).
+/// Whether `shut` of an open listener may have this answer, in a text of this version: from version 6 on, it may end
+/// the listener (RFC 9293, 3.10.4).
 pub fn open_shut_allows(version: Version, answer: &Answer) -> bool
     ensures { result ≡ open_shut_allows version answer.now }
 {
