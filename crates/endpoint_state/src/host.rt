@@ -216,18 +216,18 @@ pub(crate) fn expire(
 
 /// Fast recovery begins. The error is the first broken rule; nothing is changed then.
 pub(crate) fn recover(
-    version: Version,
+    header: &Header,
     host: &mut HostState,
     recovery: Recovery,
     moment: u64,
 ) -> Result<(), Rule>
     requires { IsReady host.old }
-    ensures rule { result_err result ≡ first_broken (recovering_rules version moment recovery host.old.body) }
+    ensures rule { result_err result ≡ first_broken (recovering_rules header.now.version moment recovery host.old.body) }
     ensures ok { OnOk result (host.new ≡ forget_host
         (record host.old { body = recovered_body moment recovery host.old.body })) }
     ensures err { OnErr result (host.new ≡ host.old) }
 {
-    host.body.recover(version, recovery, moment)
+    host.body.recover(header.version, recovery, moment)
 }
 
 /// A call that may have this answer has its effect.

@@ -483,8 +483,7 @@ impl World {
         ensures ok { OnOk result (self.new ≡ after self.old moment (At host (Does recovery))) }
         ensures err { OnErr result (self.new ≡ self.old) }
     {
-        let version = self.header.version;
-        host::recover(version, self.hosts.side(host), recovery, moment)?;
+        host::recover(&self.header, self.hosts.side(host), recovery, moment)?;
         self.steps += 1;
         Ok(())
     }
