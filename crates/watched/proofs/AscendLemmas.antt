@@ -107,7 +107,7 @@ tops_host_step h host moment far k (Does x) =
 tops_host_step h host moment far k (Expires line x) =
     tops_or (λ e. expiry_rules h moment e x.expired) ((rules.NoEndpoint, true) ∷ []) (endpoint_of k.body x.lport x.rport) refl (λ e. refl)
 tops_host_step h host moment far k (Makes m) =
-    tops_or (λ e. making_rules e m) ((rules.NoEndpoint, true) ∷ []) (endpoint_of k.body m.lport m.rport) refl (λ e. refl)
+    tops_or (λ e. making_rules h.version e m) ((rules.NoEndpoint, true) ∷ []) (endpoint_of k.body m.lport m.rport) refl (λ e. refl)
 tops_host_step h host moment far k (Sends line number wire) = tops_on _ ((rules.NotMade, true) ∷ []) (lookup (nat_eq number) k.made) refl (λ m. refl)
 tops_host_step h host moment far k (Gets line copied wire) = tops_on _ ((rules.NoEmission, true) ∷ []) (lookup (nat_eq copied) far) refl (λ m. refl)
 tops_host_step h host moment far k (Hears line wire) = refl

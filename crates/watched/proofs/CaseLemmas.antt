@@ -1,6 +1,6 @@
 -- A step of a case: the rules of the model and of duties, and the case after it.
 use Rattle.std.proofs.Common.{◌≡◌, ℕ, suc, Bool, true, false, List, [], ◌++◌, Option, None, Some, Result, Ok, Err, refl, sym, ap, subst, ◌∙◌, inl}
-use Rattle.std.proofs.Common.{inr, ◌×◌, ◌⊎◌}
+use Rattle.std.proofs.Common.{inr, ◌⊎◌}
 use Rattle.std.specs.Prelude.{OnOk, IfErr, if◌then◌else◌, not, is_some, ◌&&◌}
 use Rattle.std.specs.Option.{option_map, option_map_or}
 use Rattle.case_forms.specs.Versions.{says_sender}
@@ -183,6 +183,11 @@ pub done_is : {A : Type 0} (refusal : Option Rule) (done answered : Result A Ste
 done_is None done answered x is ok = (refl, sym is ∙ ok)
 done_is (Some rule) done answered x is ok = let clash : watch.with_refusal (Some rule) done ≡ Ok x = sym is ∙ ok in absurd cc
 
+-- and what the model says of it
+pub done_does : {A : Type 0} (refusal : Option Rule) (done answered : Result A StepFault) (x : A) → answered ≡ watch.with_refusal refusal done
+    → answered ≡ Ok x → (T : Type 0) → OnOk done T → T
+done_does refusal done answered x is ok T e = subst (λ (r : Result _ StepFault). OnOk r T) (done_is refusal done answered x is ok).1 e
+
 -- a step of the model, and what was judged of it
 module _ (p : Progress) (fs : Flights) (d : Duties) (moment : ℕ) (step : Step tcp_shape) where
   abbrev known : Known
@@ -228,6 +233,12 @@ module _ (p : Progress) (fs : Flights) (d : Duties) (moment : ℕ) (step : Step 
       ∙ ap (λ (u : Progress). case_of u (flown u.header u.world seen fs) (noted_by u.header moment u.world seen d)) is
       ∙ kept_is p.header p.world fs d p.steps moment step
 
+  first_is : (rule : Rule) → Some rule ≡ refused_by p.header moment known step
+      → first_broken (model_rules p.header moment known step) ≡ least_broken (Some rule) (first_broken model)
+  first_is rule refused =
+      refused_first (refused_by p.header moment known step) 6 model (rules_ascend p.header moment p.world step) (refused_among p.header moment known step)
+      ∙ ap (λ (o : Option Rule). least_broken o (first_broken model)) (sym refused)
+
   -- what a fault of the model says of the case, if what is kept of data in flight may refuse the step
   model_breaks : {A : Type 0} (refusal : Option Rule) (done : Result A StepFault) → refusal ≡ refused_by p.header moment known step
       → OnOk done (first_broken model ≡ None)
@@ -240,12 +251,6 @@ module _ (p : Progress) (fs : Flights) (d : Duties) (moment : ℕ) (step : Step 
   model_breaks (Some rule) (Ok x) refused may breaks = first_is rule refused ∙ ap (least_broken (Some rule)) may
   model_breaks (Some rule) (Err OutOfMemory) refused may breaks = tt
   model_breaks (Some rule) (Err (Broken other)) refused may breaks = first_is rule refused ∙ ap (least_broken (Some rule)) breaks
-
-  first_is : (rule : Rule) → Some rule ≡ refused_by p.header moment known step
-      → first_broken (model_rules p.header moment known step) ≡ least_broken (Some rule) (first_broken model)
-  first_is rule refused =
-      refused_first (refused_by p.header moment known step) 6 model (rules_ascend p.header moment p.world step) (refused_among p.header moment known step)
-      ∙ ap (λ (o : Option Rule). least_broken o (first_broken model)) (sym refused)
 
   pub model_refuses : {A : Type 0} (refusal : Option Rule) (done answered : Result A StepFault) (fault : StepFault)
       → refusal ≡ refused_by p.header moment known step
