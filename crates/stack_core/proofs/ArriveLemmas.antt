@@ -1,7 +1,8 @@
 -- A segment that is brought comes in, and waits.
 use Rattle.std.proofs.Common.{◌≡◌, ◌<◌, ◌+◌, ◌*◌, ℕ, Bool, true, false, List, [], ◌∷◌, Option, None, Some, refl, ap}
 use Rattle.std.proofs.Common.{sym, ◌∙◌, subst, inl, inr, nat_eq, nat_lt, arith}
-use Rattle.std.specs.Prelude.{◌⊎◌, cond, Err, Ok, OnErr, Result}
+use Rattle.std.specs.Prelude.{◌⊎◌, ◌==◌, ◌||◌, cond, not, Err, IfNone, Ok, OnErr, Result}
+use Rattle.std.specs.Option.{option_map_or}
 use Rattle.std.specs.Map.{lookup}
 use Rattle.std.proofs.lemmas.Bool.Decides.{nat_tests}
 use Rattle.indexmap.specs.IndexMap.{insert_entry}
@@ -15,7 +16,10 @@ use Rattle.case_forms.specs.declared.timer.RecoveryChange.{RecoveryChange}
 use Rattle.case_forms.specs.declared.timer.RecoveryChange.TheVariants.{Begins}
 use Rattle.case_forms.specs.declared.trace.Header.{Header}
 use Rattle.case_forms.specs.declared.trace.Wire.{Wire}
+use Rattle.case_forms.specs.declared.version.Version.{Version}
+use Rattle.case_forms.specs.Versions.{says_sender}
 use Rattle.verdict.specs.Rules.{first_broken}
+use Rattle.verdict.proofs.RuleLemmas.{none_all, all_none}
 use Rattle.verdict.specs.declared.rule.Rule.TheVariants as rules
 use Rattle.spec_network.specs.Tables.{on, other, pick, waiting}
 use Rattle.spec_network.specs.Hosts.{World, Answers, At, Does, Drops, Gets, Takes}
@@ -23,7 +27,12 @@ use Rattle.spec_network.specs.HostRules.{Permitted, just}
 use Rattle.spec_network.specs.HostSteps.{after, start}
 use Rattle.spec_network.proofs.Entries.{lookup_insert}
 use Rattle.spec_tcp.specs.declared.endpoint.Emission.{Emission}
+use Rattle.spec_tcp.specs.declared.endpoint.Endpoint.{Endpoint}
+use Rattle.spec_tcp.specs.Endpoints.{snd_max}
+use Rattle.spec_tcp.specs.HostTcp.{endpoint_of}
 use Rattle.spec_tcp.specs.Machine.{tcp, tcp_shape}
+use Rattle.spec_tcp.specs.Recovery.{recovery_rules}
+use Rattle.window_rules.specs.Control as control
 use Rattle.spec_tcp.specs.Wire.{in_rules}
 use Rattle.spec_merge.specs.Books.{Bring, Flying, bring}
 use Rattle.spec_merge.proofs.Growing.{end_more}
@@ -31,7 +40,7 @@ use Rattle.spec_merge.proofs.Lines.{next_more}
 use Rattle.stack_core.specs.declared.tick.Tick.{Tick}
 use Rattle.stack_core.specs.ArrivalEvents.{Brought, Came, Dropped, Taken, Ticked, Took, IsArrived, IsArrivedShort}
 use Rattle.stack_core.specs.ArrivalEvents.{IsCameIn, IsChoice, IsHeld, IsRecovered, IsRecoveryAt, IsSettled}
-use Rattle.stack_core.specs.ArrivalEvents.{IsSettledShort, MayDrop, MayRecover, MayTake, came, ports_of}
+use Rattle.stack_core.specs.ArrivalEvents.{IsSettledShort, MayDrop, MayRecover, MayTake, beginning, came, ports_of}
 use Rattle.stack_core.specs.Cores.{Core, Fits, MayDo, line_to_come, event_begun, with_item, with_step, world}
 use Rattle.stack_core.specs.Entries.{entry_at, steps_in}
 use Rattle.stack_core.proofs.Cores.{leads}
@@ -192,6 +201,10 @@ pub any_error : {A E : Type 0} {P : Type 0} (result : Result A E) → P → OnEr
 any_error (Ok value) holds = tt
 any_error (Err error) holds = holds
 
+pub none_left : {A : Type 0} {P : Type 0} (result : Option A) → P → IfNone result P
+none_left None holds = holds
+none_left (Some value) holds = tt
+
 -- 4. what waits is settled
 
 pub settled_taken : (c d e : Core) (n : ℕ) (ports : Ports) (choice : TakeChoice) (me : Host)
@@ -218,6 +231,28 @@ may_recover c ports x (left, right, begins, may) = (
       (subst (λ (y : Recovery). MayDo c (At c.recorded.me (Does y))) (ap (λ (n : ℕ). record x { rport = n; change = Begins }) right)
       (subst (λ (y : Recovery). MayDo c (At c.recorded.me (Does y))) (ap (λ (k : RecoveryChange). record x { change = k }) begins) may)),
 )
+
+-- where it may begin with some values, it may begin with none
+none_above : (x : ℕ) → nat_lt x 0 ≡ false
+none_above x = grind (arith, nat_tests)
+
+least_values : (a b c d : Bool) (x y : ℕ) → (a || b || c || d) ≡ false → (a || b || nat_lt x 0 || nat_lt y 0) ≡ false
+least_values true b c d x y is = absurd cc
+least_values false true c d x y is = absurd cc
+least_values false false c d x y is = rw (none_above x, none_above y) refl
+
+recovers_least : (v : Version) (cwnd ssthresh moment : ℕ) (o : Option Endpoint)
+    → first_broken (option_map_or (λ e. recovery_rules v e Begins cwnd ssthresh moment) o ((rules.NoEndpoint, true) ∷ [])) ≡ None
+    → first_broken (option_map_or (λ e. recovery_rules v e Begins 0 0 moment) o ((rules.NoEndpoint, true) ∷ [])) ≡ None
+recovers_least v cwnd ssthresh moment None may = absurd cc
+recovers_least v cwnd ssthresh moment (Some e) may =
+    let t = none_all (recovery_rules v e Begins cwnd ssthresh moment) may in
+    all_none (recovery_rules v e Begins 0 0 moment)
+    (t.0, (t.1.0, (least_values (not (says_sender v || control.may_recover e.control)) (e.stream.snd_una == snd_max e) _ _ _ _ t.1.1.0, t.1.1.1)))
+
+pub may_recover_least : (c : Core) (ports : Ports) → MayRecover c ports → MayDo c (At c.recorded.me (Does (beginning ports 0 0)))
+may_recover_least c ports (cwnd, ssthresh, may) =
+    recovers_least c.recorded.header.version cwnd ssthresh c.last.moment (endpoint_of (pick (world c).hosts c.recorded.me).body ports.lport ports.rport) may
 
 -- what was taken stands, where memory ran out at the recovery that was to begin behind
 pub taken_short : (c d e : Core) (n : ℕ) (ports : Ports) (choice : TakeChoice) (me : Host) → IsChoice c n choice

@@ -1,8 +1,7 @@
 -- What two cores recorded of each other: each is a run, and what was brought flew from the other.
-use Rattle.std.specs.declared.alloc.AllocError.{AllocError}
-use Rattle.std.proofs.Common.{◌≡◌, ℕ, true, false, List, [], ◌∷◌, ◌++◌, All, Contains, Option, None, Some, Result, Ok, Err, inl, inr, refl, ap, sym, ◌∙◌, subst}
+use Rattle.std.proofs.Common.{◌≡◌, ℕ, true, false, List, [], ◌∷◌, ◌++◌, All, None, Some, Ok, Err, inl, inr, refl, ap, sym, ◌∙◌, subst}
 use Rattle.std.proofs.lemmas.List.{append-nil, append_assoc}
-use Rattle.std.proofs.lemmas.List.Elements.{All-append, All-cons, All-contains, All-map, All-nil}
+use Rattle.std.proofs.lemmas.List.Elements.{All-append, All-cons, All-contains, All-nil}
 use Rattle.case_forms.specs.Traces.{first_event_line}
 use Rattle.case_forms.specs.declared.calls.Host.{Host}
 use Rattle.case_forms.specs.declared.calls.Host.TheVariants.{Zero, One}
@@ -10,7 +9,7 @@ use Rattle.case_forms.specs.declared.trace.Header.{Header}
 use Rattle.spec_network.specs.Hosts.{At, Effect, Takes, Does}
 use Rattle.spec_network.specs.Tables.{Both, other, pick, with_host}
 use Rattle.spec_tcp.specs.Machine.{tcp, tcp_shape}
-use Rattle.spec_merge.specs.Books.{Bring, Do, Entry, Flying, Item, Key}
+use Rattle.spec_merge.specs.Books.{Bring, Do, Flying, Item, Key}
 use Rattle.spec_merge.specs.Keys.{Books, EachEntry, NamesOne, before}
 use Rattle.spec_merge.specs.Recordings.{IsKept, NamesSent, TcpEntry}
 use Rattle.stack_core.specs.declared.tick.Tick.{Tick}
@@ -23,7 +22,7 @@ use Rattle.stack_core.specs.Cores.{Core, IsRecorded, line_to_come, event_begun, 
 use Rattle.stack_core.specs.Entries.{entry_at}
 use Rattle.stack_core.specs.Flown.{HasFlown, IsAbove}
 use Rattle.stack_core.specs.Outgoing.{GoesOut}
-use Rattle.stack_core.specs.PumpEvents.{IsPumped, made}
+use Rattle.stack_core.specs.PumpEvents.{made}
 use Rattle.stack_core.specs.PumpEvents.IsPumped.{Answered as ResetGoes, Made as MadeGoes}
 use Rattle.stack_core.specs.Recordings.{Recorded, with_entry, world_left}
 use Rattle.stack_core.proofs.FlightLemmas.{flown_stays, gone_flown, named}
