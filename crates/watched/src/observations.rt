@@ -12,7 +12,7 @@ ghost use Rattle.spec_step.specs.Acts.{step_hidden};
 ghost use Rattle.spec_duties.specs.Dropped.{has_content};
 ghost use Rattle.spec_duties.specs.Observations.{at_drop, at_next, at_place, at_ports, at_sender, at_target};
 ghost use Rattle.spec_duties.specs.Observations.{processing_of};
-ghost use Rattle.spec_duties.specs.Observations.{sending_of, observe, touching, unseen, view_in};
+ghost use Rattle.spec_duties.specs.Observations.{observe, sending_of, syn_sent, touching, unseen, view_in};
 ghost use Rattle.spec_duties.specs.Views as views;
 ghost use Rattle.spec_duties.specs.declared.observations.BuiltChange.TheVariants as built_change;
 ghost use Rattle.spec_duties.specs.declared.observations.InboxChange.TheVariants as inbox_change;
