@@ -266,14 +266,11 @@ fn judge_line(
     let Some(taken) = line.taken(extras) else {
         return Ok(());
     };
-    match taken {
+    match &taken {
         TakenLine::Sent {
-            host,
-            made,
-            ref wire,
-            ..
+            host, made, wire, ..
         } => {
-            let seen = observe_sending(world, host, made, wire);
+            let seen = observe_sending(world, *host, *made, wire);
             watch_step(world, flights, duties, moment, taken, &seen, None)
         }
         TakenLine::CallBegin { .. }
