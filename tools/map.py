@@ -18,8 +18,8 @@ WINGS = (
         "Model",
         "#186",
         272,
-        """seqno segment streams tables window_rules timer_rules spec_network spec_tcp spec_duties spec_tcp_laws
-        spec_merge endpoint endpoint_state spec_step duties watched""",
+        """seqno segment streams tables window_rules timer_rules spec_network spec_tcp spec_duties spec_flights
+        spec_cases spec_tcp_laws spec_merge endpoint endpoint_state spec_step duties flights watched""",
     ),
     ("Texts", "#36c", 178, "counted case_forms line_fields case_lines case_stream trace_reader witness"),
     (

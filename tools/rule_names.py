@@ -5,7 +5,7 @@
     tools/rule_names.py --check  only names the files that differ; the status is 1 if there are any
 
 C and Go have no list: they ask the library for the name of a rule's number. The contract of `Rule::name` says that the
-names are those of crates/verdict/specs/Rules.antt; crates/spec_tcp_laws/specs/Ascending.antt has the numbers.
+names are those of crates/verdict/specs/Rules.antt, which has the numbers, too.
 """
 import argparse
 import os
@@ -14,7 +14,7 @@ import sys
 
 TOP = os.path.dirname(os.path.dirname(os.path.abspath(__file__)))
 SOURCE = "crates/verdict/src/rule.rt"
-NUMBERS = "crates/spec_tcp_laws/specs/Ascending.antt"
+NUMBERS = "crates/verdict/specs/Rules.antt"
 
 PYTHON = '''\
 """The rules that a no names. tools/rule_names.py writes this file."""
