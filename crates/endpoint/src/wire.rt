@@ -5,8 +5,8 @@ ghost use Rattle.spec_network.specs.HostRules.{just};
 ghost use Rattle.spec_tcp.specs.Bounds.{IsSmallEmission};
 ghost use Rattle.spec_tcp.specs.Heard.{heard, most_bytes, told_flags};
 ghost use Rattle.spec_tcp.specs.Same.{same_bytes};
-ghost use Rattle.spec_tcp.specs.Wire.{ack_matches, acknowledges, header_matches, in_rules, is_before_text, matches_sent};
-ghost use Rattle.spec_tcp.specs.Wire.{may_acknowledge, same_flags, sent, sent_ack, shift_matches};
+ghost use Rattle.spec_tcp.specs.Wire.{ack_matches, acknowledges, header_matches, in_rules, is_before_text};
+ghost use Rattle.spec_tcp.specs.Wire.{matches_sent, may_acknowledge, same_flags, sent, sent_ack, shift_matches};
 ghost use Rattle.std.specs.Prelude.{◌≡◌, ◌≤◌, IfOk, ◌+◌, ◌-◌, if◌then◌else◌, length, nat_lt, not, take};
 ghost use Rattle.std.specs.Result.{result_err};
 ghost use Rattle.verdict.specs.Rules.{first_broken};
@@ -201,8 +201,8 @@ fn same_or_copy(bytes: Bytes, wanted: &Bytes) -> Result<Bytes, OutOfMemory>
     }
 }
 
-// A segment with this payload, on the wire at a moment in microseconds: with the acknowledgment that the wire shows, its
-// bytes, and the MSS and the shift in its options.
+// A segment with this payload, on the wire at a moment in microseconds: with the acknowledgment that the wire shows,
+// its bytes, and the MSS and the shift in its options.
 #[inline(always)]
 fn with_bytes(
     m: &Emission,

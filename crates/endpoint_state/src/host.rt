@@ -222,7 +222,8 @@ pub(crate) fn recover(
     moment: u64,
 ) -> Result<(), Rule>
     requires { IsReady host.old }
-    ensures rule { result_err result ≡ first_broken (recovering_rules header.now.version moment recovery host.old.body) }
+    ensures rule { result_err result ≡ first_broken
+        (recovering_rules header.now.version moment recovery host.old.body) }
     ensures ok { OnOk result (host.new ≡ forget_host
         (record host.old { body = recovered_body moment recovery host.old.body })) }
     ensures err { OnErr result (host.new ≡ host.old) }

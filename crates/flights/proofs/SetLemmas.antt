@@ -9,7 +9,8 @@ use Rattle.streams.specs.Ranges.{covers}
 
 -- a set is that of its positions
 pub read_back : (s : FinSet nat_cmp) → from_list (items s) ≡ s
-read_back s = same_set nat_cmp_total nat_cmp-IsAntisymmetric (from_list (items s)) s (λ q. contains-from_list nat_cmp_total (items s) q ∙ sym (contains-items s q))
+read_back s = same_set nat_cmp_total nat_cmp-IsAntisymmetric (from_list (items s)) s
+    (λ q. contains-from_list nat_cmp_total (items s) q ∙ sym (contains-items s q))
 
 -- the empty set has none
 pub none_in : items (empty {R = nat_cmp}) ≡ []

@@ -348,7 +348,8 @@ module _ (t : Trace) (w : Witness) (slack : ℕ) (given : t.header.slack ≡ Som
           let k = known_before t w m.place in
           let body = (pick k.model.hosts me.host).body in
           let content = subst (λ (q : ℕ). made_by b.act.moment (known_before t w q).model b.act.step ≡ Some sent.made.emission) same
-          (subst (λ (x : Stamped tcp_shape). made_by x.moment (known_before t w sent.was.place).model x.step ≡ Some sent.made.emission) act_same sent.content) in
+          (subst (λ (x : Stamped tcp_shape). made_by x.moment (known_before t w sent.was.place).model x.step ≡ Some sent.made.emission)
+          act_same sent.content) in
           sym content
           ∙ ap (made_by b.act.moment k.model) b.step
           ∙ ap (λ (o : Option ℕ). option_map_or (made_at me.host b.act.moment body b.plan) o None) b.ports

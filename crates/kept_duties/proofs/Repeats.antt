@@ -96,7 +96,8 @@ module _ (t : Trace) (w : Witness) (slack : ℕ) (r : Run t.header slack (length
   owes_of place x me event is shows =
       owes_after t.header slack (known_before t w place) (known_before t w (suc place)) x me (goes_of place x is) event shows
 
-  module _ (old : says_sender t.header.version ≡ false) (judged : judges_repeats t.header.congestion ≡ true) (first second : ℕ) (me : EndpointId) (p q : SegmentPlan) (less : first < second)
+  module _ (old : says_sender t.header.version ≡ false) (judged : judges_repeats t.header.congestion ≡ true)
+      (first second : ℕ) (me : EndpointId) (p q : SegmentPlan) (less : first < second)
       (a : BuildsAgain t w first me p) (b : BuildsAgain t w second me q) (nothing : NothingBegins t w me first second) where
     abbrev again : Known → ℕ
     again k = (owed_by k.duties me.host me.number).again

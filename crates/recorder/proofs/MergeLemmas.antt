@@ -133,7 +133,8 @@ merged_is h zs os =
     ∙ steps_are h (names_of (tcp h) (first_event_line h) (in_order zs os)) (in_order zs os)
     ∙ ap (λ (xs : List TcpEntry). steps_of (tcp h) (names_of (tcp h) (first_event_line h) xs) xs) (order_is h zs os)
 
-told_by : (t : Trace) (w : Witness) (zs os : List TcpEntry) → is_half t.header.version ≡ false → t.header.slack ≡ None → judges t.header ≡ false → w.version ≡ t.header.version
+told_by : (t : Trace) (w : Witness) (zs os : List TcpEntry) → is_half t.header.version ≡ false → t.header.slack ≡ None
+    → judges t.header ≡ false → w.version ≡ t.header.version
     → t.lines ≡ lines_said (all_renumbered (new_names t.header (in_order zs os)) (in_order zs os))
     → w.steps ≡ steps_said (all_renumbered (new_names t.header (in_order zs os)) (in_order zs os))
     → Books (tcp t.header) (first_event_line t.header) zs os
@@ -165,7 +166,8 @@ told_by t w zs os both any unjudged version lines_is steps_is books =
     }
 
 -- the same for a trace that has this header
-pub told_as : (h : Header) (t : Trace) (w : Witness) (zs os : List TcpEntry) → is_half h.version ≡ false → h.slack ≡ None → judges h ≡ false → t.header ≡ h → w.version ≡ h.version
+pub told_as : (h : Header) (t : Trace) (w : Witness) (zs os : List TcpEntry) → is_half h.version ≡ false → h.slack ≡ None
+    → judges h ≡ false → t.header ≡ h → w.version ≡ h.version
     → t.lines ≡ lines_said (all_renumbered (new_names h (in_order zs os)) (in_order zs os))
     → w.steps ≡ steps_said (all_renumbered (new_names h (in_order zs os)) (in_order zs os))
     → Books (tcp h) (first_event_line h) zs os

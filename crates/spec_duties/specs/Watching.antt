@@ -23,8 +23,8 @@ use Rattle.spec_duties.specs.Credits.{spent}
 use Rattle.spec_duties.specs.Acknowledge.{acknowledge_due}
 use Rattle.spec_duties.specs.Owed.{Lates, Owed, nothing, lates_of, late_rules, owed_after}
 use Rattle.spec_duties.specs.Sampling.{Sampling, is_sample_due}
-use Rattle.spec_duties.specs.Strict.{StrictOwed, Unsent, brought_by, is_spared, nothing_strict, strict_after, strict_lates}
-use Rattle.spec_duties.specs.Strict.{taken_over, with_brought}
+use Rattle.spec_duties.specs.Strict.{StrictOwed, Unsent, brought_by, is_spared, nothing_strict, strict_after}
+use Rattle.spec_duties.specs.Strict.{strict_lates, taken_over, with_brought}
 use Rattle.spec_duties.specs.Dropped.{Droppable, Dropping}
 use Rattle.spec_duties.specs.Answering.{CallChange, Waits, is_answer_late, none_wait}
 use Rattle.spec_duties.specs.Observations.{InboxChange, BuiltChange, Queueing, Observation, TouchedEndpoint}

@@ -64,8 +64,8 @@ pub enum SynChange {
     Nothing,
     /// An endpoint sends its own SYN. `permits`: its options permit selective acknowledgments (RFC 2018, 2).
     Sends { permits: bool },
-    /// An endpoint takes the SYN of its peer, or a listener does, which creates the endpoint. `alone`: the endpoint sent
-    /// its own, and this one doesn't acknowledge it (RFC 9293, 3.5, simultaneous initiation).
+    /// An endpoint takes the SYN of its peer, or a listener does, which creates the endpoint. `alone`: the endpoint
+    /// sent its own, and this one doesn't acknowledge it (RFC 9293, 3.5, simultaneous initiation).
     Takes { permits: bool, alone: bool },
     /// The SYN that an endpoint in SYN-RECEIVED took comes again, and is dropped.
     ComesAgain,

@@ -3,7 +3,8 @@
 use case_forms::State;
 use timer_rules::Timers;
 
-/// What duties, and what is kept of data in flight, read of an endpoint. Positions and windows are those of RFC 9293, 3.3.1.
+/// What duties, and what is kept of data in flight, read of an endpoint. Positions and windows are those of
+/// RFC 9293, 3.3.1.
 #[derive(Clone, Copy)]
 pub struct View {
     pub state: State,

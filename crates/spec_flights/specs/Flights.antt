@@ -25,8 +25,8 @@ use Rattle.spec_flights.specs.Marks.{marks_after, old_part}
 use Rattle.spec_flights.specs.Recovering.{Recovery, is_recovering, is_repairing, none_begun, recovery_after}
 use Rattle.spec_flights.specs.Sides.{Sides, are_selective, neither, sides_after}
 
--- what is kept of an endpoint: what the two SYNs permit, from which loss it recovers, and which positions are marked, in
--- order
+-- what is kept of an endpoint: what the two SYNs permit, from which loss it recovers, and which positions are marked,
+-- in order
 pub record Flight : Type 0 where
   pub sides : Sides
   pub recovery : Recovery
@@ -91,7 +91,8 @@ abbrev pub flight_after : SynChange → Event → (before after : View) → Flig
 flight_after change event before after f = record {
   sides = sides_after change f.sides;
   recovery = recovery_after event after f.recovery;
-  marks = marks_in change event before after (sides_after change f.sides) (recovery_after event after f.recovery) f.marks;
+  marks = marks_in change event before after (sides_after change f.sides) (recovery_after event after f.recovery)
+    f.marks;
 }
 
 abbrev pub flights_touched : (after : View) → SynChange → Flights → TouchedEndpoint → Flights

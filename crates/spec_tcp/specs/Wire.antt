@@ -1,6 +1,6 @@
 -- Segments sent and received, as bytes on the wire (RFC 9293, 3.1 and 3.4.2; RFC 7323, 2.2).
-use Rattle.std.specs.Prelude.{ℕ, ◌+◌, ◌-◌, ◌==◌, nat_lt, min, Bool, true, false, not, ◌&&◌, ◌||◌, if◌then◌else◌, List, []}
-use Rattle.std.specs.Prelude.{◌∷◌}
+use Rattle.std.specs.Prelude.{ℕ, ◌+◌, ◌-◌, ◌==◌, nat_lt, min, Bool, true, false, not, ◌&&◌, ◌||◌, if◌then◌else◌, List}
+use Rattle.std.specs.Prelude.{[], ◌∷◌}
 use Rattle.std.specs.Option.{option_map_or}
 use Rattle.segment.specs.Flags.{has_flag}
 use Rattle.segment.specs.declared.fields.Segment.{Segment}
@@ -28,8 +28,8 @@ same_flags s f =
 abbrev pub may_acknowledge : Version → Emission → Bool
 may_acknowledge v m = m.flags.ack || says_sender v && m.is_reset_reply
 
--- the acknowledgment number is that of the built segment, or from version 6 on that from before the text which was taken
--- at the moment of building: RFC 9293, 3.10.7.4, processes a segment's acknowledgment before its text
+-- the acknowledgment number is that of the built segment, or from version 6 on that from before the text which was
+-- taken at the moment of building: RFC 9293, 3.10.7.4, processes a segment's acknowledgment before its text
 abbrev pub acknowledges : Version → Word → Emission → Bool
 acknowledges version ack m =
     same_word ack m.ack_seq

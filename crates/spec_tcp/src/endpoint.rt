@@ -50,8 +50,8 @@ pub struct Windows {
     pub rcv_adv: u64,
 }
 
-/// When the text of a segment, or its FIN, last raised RCV.NXT. RFC 9293, 3.10.7.4, processes a segment's acknowledgment
-/// (fifth) before its text (seventh), so what is built at this moment may have been built in between.
+/// When the text of a segment, or its FIN, last raised RCV.NXT. RFC 9293, 3.10.7.4, processes a segment's
+/// acknowledgment (fifth) before its text (seventh), so what is built at this moment may have been built in between.
 #[derive(Clone, Copy, Debug)]
 pub struct TextTaken {
     /// The moment, in microseconds.

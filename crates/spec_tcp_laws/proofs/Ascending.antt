@@ -76,7 +76,8 @@ ascend_call h moment both call answer o = fin o
 ascend_host_step : (h : Header) (host : Host) (moment : ℕ) (far : List (ℕ × Emission)) (k : HostState tcp_shape) (d : HostStep tcp_shape)
     → ascend 6 (host_step_rules (tcp h) host moment far k d) ≡ true
 ascend_host_step h host moment far k (Does x) =
-    ascend_or (λ e. recovery_rules h.version e x.change x.cwnd x.ssthresh moment) ((rules.NoEndpoint, true) ∷ []) (endpoint_of k.body x.lport x.rport) refl (λ e. refl)
+    ascend_or (λ e. recovery_rules h.version e x.change x.cwnd x.ssthresh moment)
+    ((rules.NoEndpoint, true) ∷ []) (endpoint_of k.body x.lport x.rport) refl (λ e. refl)
 ascend_host_step h host moment far k (Expires line x) =
     ascend_or (λ e. expiry_rules h moment e x.expired) ((rules.NoEndpoint, true) ∷ []) (endpoint_of k.body x.lport x.rport) refl (λ e. refl)
 ascend_host_step h host moment far k (Makes m) =

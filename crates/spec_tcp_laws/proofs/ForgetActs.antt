@@ -110,7 +110,8 @@ act_rules-forget h me moment b (Expires x) =
     rules_at-forget b x.lport x.rport (λ e. expiry_rules h moment e x.expired)
     (λ e. expiry_rules-forget h moment e x.expired)
 act_rules-forget h me moment b (Recovers x) =
-    rules_at-forget b x.lport x.rport (λ e. recovery_rules h.version e x.change x.cwnd x.ssthresh moment) (λ e. recovery_rules-forget h.version e x.change x.cwnd x.ssthresh moment)
+    rules_at-forget b x.lport x.rport (λ e. recovery_rules h.version e x.change x.cwnd x.ssthresh moment)
+    (λ e. recovery_rules-forget h.version e x.change x.cwnd x.ssthresh moment)
 
 taking-forgets : (h : Header) (b : HostTcp) (how : TakeChoice) (m : Emission) (moment : ℕ) (t : Taker)
     → forget_body (after_taking h (forget_body b) how m moment (forget_taker t))

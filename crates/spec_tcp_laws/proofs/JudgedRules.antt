@@ -152,7 +152,8 @@ bad_passes v p e cwnd ssthresh moment may fine =
     neither (not (says_sender v || may_recover e.control) || e.stream.snd_una == snd_max e || nat_lt ((greatest e.control now (at_moment e moment)).1) ssthresh)
     (nat_lt ((greatest e.control now (at_moment e moment)).0) cwnd) fine in
     let threshold =
-    neither (not (says_sender v || may_recover e.control) || e.stream.snd_una == snd_max e) (nat_lt ((greatest e.control now (at_moment e moment)).1) ssthresh) window.0 in
+    neither (not (says_sender v || may_recover e.control) || e.stream.snd_una == snd_max e)
+    (nat_lt ((greatest e.control now (at_moment e moment)).1) ssthresh) window.0 in
     let begins = neither (not (says_sender v || may_recover e.control)) (e.stream.snd_una == snd_max e) threshold.0 in
     let recovers = recovers_by (says_sender v) (not_false (says_sender v || may_recover e.control) begins.0) in
     both_false _ _

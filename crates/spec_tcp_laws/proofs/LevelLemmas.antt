@@ -111,7 +111,8 @@ act_alike p j h me moment b (acts.Expires x) =
     rules_alike p b x.lport x.rport (λ e. expiry_rules h moment e x.expired) (λ e. expiry_rules (header_by j h) moment e x.expired)
     (λ e. expiry_alike p j h moment e x.expired)
 act_alike p j h me moment b (acts.Recovers x) =
-    rules_alike p b x.lport x.rport (λ e. recovery_rules h.version e x.change x.cwnd x.ssthresh moment) (λ e. recovery_rules h.version e x.change x.cwnd x.ssthresh moment)
+    rules_alike p b x.lport x.rport (λ e. recovery_rules h.version e x.change x.cwnd x.ssthresh moment)
+    (λ e. recovery_rules h.version e x.change x.cwnd x.ssthresh moment)
     (λ e. recovery_alike h.version p e x.change x.cwnd x.ssthresh moment)
 
 -- of a thing that is looked up
@@ -246,7 +247,8 @@ recovery_is_due v e change cwnd ssthresh moment passed =
     neither (not (says_sender v || may_recover e.control) || e.stream.snd_una == snd_max e || nat_lt ((greatest e.control now (at_moment e moment)).1) ssthresh)
     (nat_lt ((greatest e.control now (at_moment e moment)).0) cwnd) fine.1 in
     let threshold =
-    neither (not (says_sender v || may_recover e.control) || e.stream.snd_una == snd_max e) (nat_lt ((greatest e.control now (at_moment e moment)).1) ssthresh) window.0 in
+    neither (not (says_sender v || may_recover e.control) || e.stream.snd_una == snd_max e)
+    (nat_lt ((greatest e.control now (at_moment e moment)).1) ssthresh) window.0 in
     let begins = neither (not (says_sender v || may_recover e.control)) (e.stream.snd_una == snd_max e) threshold.0 in
     record {
       outstanding = differ e.stream.snd_una (snd_max e) begins.1;

@@ -59,8 +59,8 @@ pub record RefusedAlike (h : Header) (j : Judged) : Type 0 where
       × (first_broken (step_rules (tcp (header_by j h)) moment (world_judged j h w) step) ≡ Some first)
       × ((first ≡ rule) ⊎ ((is_of_level first ≡ true) × (rule_number first ≤ rule_number rule)))
 
--- at each level, fast recovery begins only if something is outstanding; in versions 1 to 5, where duplicates count, from
--- the third one on and not within fast recovery (RFC 5681, 3.2, step 2)
+-- at each level, fast recovery begins only if something is outstanding; in versions 1 to 5, where duplicates count,
+-- from the third one on and not within fast recovery (RFC 5681, 3.2, step 2)
 pub record BeginsRecovery (v : Version) (e : Endpoint) : Type 0 where
   pub outstanding : e.stream.snd_una ≡ snd_max e → ⊥
   pub duplicates : says_sender v ≡ false → counts_duplicates e.control.profile ≡ true

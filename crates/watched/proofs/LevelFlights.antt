@@ -16,8 +16,8 @@ use Rattle.verdict.specs.declared.rule.Rule.{Rule}
 use Rattle.verdict.specs.declared.rule.Rule.TheVariants as rules
 use Rattle.streams.specs.Ranges.{span}
 use Rattle.spec_network.specs.HostRules.{step_rules}
-use Rattle.spec_network.specs.Hosts.{HostStep, Step, World, Does, Expires as TimerLine, Makes, Sends as SendLine, Gets, Hears, Takes as TakeStep, Drops as DropStep}
-use Rattle.spec_network.specs.Hosts.{Answers, Begin, Finish, Effect, At}
+use Rattle.spec_network.specs.Hosts.{HostStep, Step, World, Does, Expires as TimerLine, Makes, Sends as SendLine, Gets, Hears, Takes as TakeStep}
+use Rattle.spec_network.specs.Hosts.{Drops as DropStep, Answers, Begin, Finish, Effect, At}
 use Rattle.spec_network.specs.Tables.{on, pick, with_host}
 use Rattle.spec_tcp.specs.Machine.{tcp, tcp_shape}
 use Rattle.spec_tcp.specs.Signals.{profile_of}
@@ -96,7 +96,8 @@ taken_same Recovers a before = refl
 flight_same : (change : SynChange) (event : Event) (a b : ℕ) (before after : View) (f : Flight)
     → flight_after change event (view_with a before) (view_with b after) f ≡ flight_after change event before after f
 flight_same change event a b before after f =
-    ap (λ (r : Recovery). with r (taken_by event (view_with a before)) (marked_by change event (view_with a before) (view_with b after) (repairs_plainly after sides r)))
+    ap (λ (r : Recovery). with r (taken_by event (view_with a before))
+    (marked_by change event (view_with a before) (view_with b after) (repairs_plainly after sides r)))
     (recovery_same event b after f.recovery)
     ∙ ap (λ (t : Stretch). with now t (marked_by change event (view_with a before) (view_with b after) repairs)) (taken_same event a before)
     ∙ ap (with now (taken_by event before)) (marked_same change event a b before after repairs)

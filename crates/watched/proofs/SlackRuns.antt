@@ -9,8 +9,8 @@ use Rattle.spec_network.specs.Hosts.{HostStep, Stamped, Step, World, Does, Expir
 use Rattle.spec_network.specs.Tables.{pick}
 use Rattle.spec_tcp.specs.Machine.{tcp, tcp_shape}
 use Rattle.duties.proofs.SlackLemmas.{late_any, less_late, nothing_judged, slack_is_hardly_noted}
-use Rattle.spec_cases.specs.Cases.{Dutiful, Known, first_known, flown, judged_rules, known_after, known_after_all, late_at_end, noted_by, refused_at, refused_by}
-use Rattle.spec_cases.specs.Cases.{watch_rules}
+use Rattle.spec_cases.specs.Cases.{Dutiful, Known, first_known, flown, judged_rules, known_after, known_after_all, late_at_end, noted_by, refused_at}
+use Rattle.spec_cases.specs.Cases.{refused_by, watch_rules}
 use Rattle.spec_flights.specs.Flights.{Flights, refusal}
 use Rattle.spec_duties.specs.Observations.{observe}
 use Rattle.spec_cases.specs.Slack.{AreInOrder, AtMost, HasMoreCredits, credits_left, with_slack}
@@ -178,7 +178,8 @@ module _ (less more : ℕ) (le : less ≤ more) (h : Header) where
 pub dutiful_with : (less more : Option ℕ) (h : Header) (xs : List (Stamped tcp_shape)) → AtMost less more
     → Dutiful (with_slack less h) (first_known h) xs → Dutiful (with_slack more h) (first_known h) xs
 dutiful_with less None h xs at kept =
-    dutiful_none less h (first_known h) (first_known h) xs (let same : IsSame less None h (first_known h) (first_known h) = record { model = refl; flights = refl } in same)
+    dutiful_none less h (first_known h) (first_known h) xs
+    (let same : IsSame less None h (first_known h) (first_known h) = record { model = refl; flights = refl } in same)
     kept
 dutiful_with None (Some more) h xs at kept = absurd at
 dutiful_with (Some less) (Some more) h xs at kept =

@@ -45,12 +45,13 @@ abbrev pub with_refusal : {A : Type 0} → (refusal : Option Rule) → Result A 
 with_refusal None done = done
 with_refusal (Some refused) done = Err (refused_fault refused done)
 
--- nothing is kept or judged beside the model: no duty, since the header says `any`, nor data in flight, which versions 1
--- to 5 don't watch
+-- nothing is kept or judged beside the model: no duty, since the header says `any`, nor data in flight, which versions
+-- 1 to 5 don't watch
 abbrev pub is_bare : Header → Bool
 is_bare h = not (is_some h.slack) && not (says_sender h.version)
 
 -- nothing is kept or judged of a step, if there is one: of no step, or this one shows nothing in versions 1 to 5
 abbrev pub IsPlain : Header → Option (Step tcp_shape) → Type 0
 IsPlain h asked = (says_sender h.version ≡ false)
-    × ((h.slack ≡ None) ⊎ ((moment : ℕ) (w : World tcp_shape) → option_map_or (observe h moment w) asked unseen ≡ unseen))
+    × ((h.slack ≡ None)
+      ⊎ ((moment : ℕ) (w : World tcp_shape) → option_map_or (observe h moment w) asked unseen ≡ unseen))

@@ -47,8 +47,8 @@ pub(crate) fn receive(
     Ok((ended, before < endpoint.rcv_nxt()))
 }
 
-/// When text raised RCV.NXT, and RCV.NXT before that, if it does at this moment, in microseconds. Of several times at one
-/// moment, the first counts.
+/// When text raised RCV.NXT, and RCV.NXT before that, if it does at this moment, in microseconds. Of several times at
+/// one moment, the first counts.
 pub(crate) fn text_raised(endpoint: &Endpoint, moment: u64) -> TextTaken
     ensures { result ≡ text_raised endpoint.now moment }
 {

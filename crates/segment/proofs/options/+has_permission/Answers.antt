@@ -19,4 +19,5 @@ returns-else-permits_sack t c =
 
 pub returns-in-None : goal.returns-in-None
 returns-in-None t c =
-    sym (permitted_next (item_of c.in-Ok-Some.item) c.in-Ok-Some.after.now c.args.options.now None (rw c.in-Ok-Some.field-0-is at c.in-Ok-Some.ensures.next) c.in-None.ensures)
+    sym (permitted_next (item_of c.in-Ok-Some.item) c.in-Ok-Some.after.now c.args.options.now None
+    (rw c.in-Ok-Some.field-0-is at c.in-Ok-Some.ensures.next) c.in-None.ensures)
