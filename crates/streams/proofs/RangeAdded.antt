@@ -219,15 +219,18 @@ pub added_entries : (es inserted new : List (ℕ × ℕ)) (from upto end start :
     → inserted ≡ insert_entry nat_cmp es end start → new ≡ without from end inserted → new ≡ put from (joined_end upto es) (joined_start from es) es
 added_entries es inserted new from upto end start to at is left = left ∙ (ap (without from end) is ∙ (λ i. put from (to i) (at i) es))
 
-contains-more : (s : FinSet nat_cmp) (from upto p : ℕ) (b : Bool) → contains s p ≡ b
-    → contains (union s (span from upto)) p ≡ (b || (nat_le from p && nat_lt p upto))
-contains-more s from upto p b is = contains-union nat_cmp_total s (span from upto) p ∙ (λ i. is i || contains-span from upto p i)
+pub contains-more : (s : FinSet nat_cmp) (from upto p : ℕ) → contains (union s (span from upto)) p ≡ (contains s p || (nat_le from p && nat_lt p upto))
+contains-more s from upto p = contains-union nat_cmp_total s (span from upto) p ∙ ap (λ (b : Bool). contains s p || b) (contains-span from upto p)
+
+held_more : (es : List (ℕ × ℕ)) (from upto p : ℕ)
+    → contains (union (held es) (span from upto)) p ≡ (in_entries es p || (nat_le from p && nat_lt p upto))
+held_more es from upto p = contains-more (held es) from upto p ∙ ap (λ (b : Bool). b || (nat_le from p && nat_lt p upto)) (contains-held es p)
 
 pub added_set : (es : List (ℕ × ℕ)) (from upto : ℕ) → AreApart 0 es → from < upto
     → held (put from (joined_end upto es) (joined_start from es) es) ≡ union (held es) (span from upto)
 added_set es from upto h some = same_set nat_cmp_total nat_cmp-IsAntisymmetric _ _ (λ p.
     contains-held (put from (joined_end upto es) (joined_start from es) es) p
-    ∙ (added_is es 0 from upto p h some ∙ sym (contains-more (held es) from upto p (in_entries es p) (contains-held es p))))
+    ∙ (added_is es 0 from upto p h some ∙ sym (held_more es from upto p)))
 
 none_in : (from upto p : ℕ) (x : Bool) → upto ≤ from → x ≡ (x || (nat_le from p && nat_lt p upto))
 none_in from upto p true none = refl
@@ -235,4 +238,4 @@ none_in from upto p false none = grind (arith, nat_tests, none)
 
 pub none_added : (s : FinSet nat_cmp) (from upto : ℕ) → upto ≤ from → s ≡ union s (span from upto)
 none_added s from upto none = same_set nat_cmp_total nat_cmp-IsAntisymmetric _ _ (λ p.
-    none_in from upto p (contains s p) none ∙ sym (contains-more s from upto p (contains s p) refl))
+    none_in from upto p (contains s p) none ∙ sym (contains-more s from upto p))

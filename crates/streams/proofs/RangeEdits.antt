@@ -2,7 +2,7 @@
 use Rattle.std.proofs.Common.{◌≡◌, ℕ, suc, ◌<◌, ◌≤◌, max, Bool, true, false, ◌&&◌, nat_le, nat_lt, List, [], ◌∷◌, length, refl, sym, ap, subst, arith}
 use Rattle.std.proofs.lemmas.Bool.Decides.{nat_tests}
 use Rattle.std.proofs.lemmas.Option.{none-some, same_Some}
-use Rattle.std.specs.Prelude.{None, Some, ⊤}
+use Rattle.std.specs.Prelude.{None, Some, find, ⊤}
 use Rattle.std.specs.Ordering.{nat_cmp}
 use Rattle.std.specs.Cmp.{nat_cmp_is}
 use Rattle.std.specs.declared.cmp.Ordering.{Ordering}
@@ -87,13 +87,27 @@ none_between (e ∷ es) low high is = by (nat_le low e.0 && nat_lt e.0 high) ref
 
 -- ---- the first range that ends after a position loses what lies below it
 
-after_bound : (es : List (ℕ × ℕ)) (p : ℕ) (e : ℕ × ℕ) → first_after p es ≡ Some e → p < e.0
+pub after_bound : {X : Type 0} (es : List (ℕ × X)) (p : ℕ) (e : ℕ × X) → find (λ e. nat_lt p e.0) es ≡ Some e → p < e.0
 after_bound [] p e is = absurd (none-some e is)
-after_bound (d ∷ es) p e is = by (nat_lt p d.0) refl (after_bound es p e)
+after_bound {X} (d ∷ es) p e is = by (nat_lt p d.0) refl (after_bound es p e)
   where
-    by : (b : Bool) → nat_lt p d.0 ≡ b → (first_after p es ≡ Some e → p < e.0) → p < e.0
-    by true under rest = subst (λ (x : ℕ × ℕ). p < x.0) (same_Some d e (rw under at is)) (grind (arith, nat_tests, under))
+    by : (b : Bool) → nat_lt p d.0 ≡ b → (find (λ e. nat_lt p e.0) es ≡ Some e → p < e.0) → p < e.0
+    by true under rest = subst (λ (x : ℕ × X). p < x.0) (same_Some d e (rw under at is)) (grind (arith, nat_tests, under))
     by false above rest = rest (rw above at is)
+
+pub after_found : {X : Type 0} (es : List (ℕ × X)) (p : ℕ) (e : ℕ × X) → find (λ e. nat_lt p e.0) es ≡ Some e
+    → lookup (is_at (nat_cmp e.0)) es ≡ Some e.1
+after_found [] p e is = absurd (none-some e is)
+after_found {X} (d ∷ es) p e is = by (nat_lt p d.0) refl (after_bound es p e) (after_found es p e)
+  where
+    by : (b : Bool) → nat_lt p d.0 ≡ b → (find (λ e. nat_lt p e.0) es ≡ Some e → p < e.0)
+        → (find (λ e. nat_lt p e.0) es ≡ Some e → lookup (is_at (nat_cmp e.0)) es ≡ Some e.1) → lookup (is_at (nat_cmp e.0)) (d ∷ es) ≡ Some e.1
+    by true under bound rest =
+        subst (λ (x : ℕ × X). lookup (is_at (nat_cmp x.0)) (d ∷ es) ≡ Some x.1) (same_Some d e (rw under at is)) (rw (cmp_same d.0) refl)
+    by false above bound rest =
+        let after : p < e.0 = bound (rw above at is) in
+        let more : nat_cmp e.0 d.0 ≡ Greater = cmp_greater e.0 d.0 (grind (arith, nat_tests, above, after)) in
+        rw more (rest (rw above at is))
 
 pub begun_set : (es : List (ℕ × ℕ)) (p w : ℕ) (e : ℕ × ℕ) → first_after p es ≡ Some e → w ≡ max e.1 p
     → set_value (is_at (nat_cmp e.0)) es w ≡ begun_at p es
@@ -110,19 +124,6 @@ begun_set (d ∷ es) p w e is to = by (nat_lt p d.0) refl (after_bound es p e) (
         let after : p < e.0 = bound (rw above at is) in
         let more : nat_cmp e.0 d.0 ≡ Greater = cmp_greater e.0 d.0 (grind (arith, nat_tests, above, after)) in
         rw (above, more) (ap (λ (xs : List (ℕ × ℕ)). d ∷ xs) (rest (rw above at is)))
-
-pub after_found : (es : List (ℕ × ℕ)) (p : ℕ) (e : ℕ × ℕ) → first_after p es ≡ Some e → lookup (is_at (nat_cmp e.0)) es ≡ Some e.1
-after_found [] p e is = absurd (none-some e is)
-after_found (d ∷ es) p e is = by (nat_lt p d.0) refl (after_bound es p e) (after_found es p e)
-  where
-    by : (b : Bool) → nat_lt p d.0 ≡ b → (first_after p es ≡ Some e → p < e.0)
-        → (first_after p es ≡ Some e → lookup (is_at (nat_cmp e.0)) es ≡ Some e.1) → lookup (is_at (nat_cmp e.0)) (d ∷ es) ≡ Some e.1
-    by true under bound rest =
-        subst (λ (x : ℕ × ℕ). lookup (is_at (nat_cmp x.0)) (d ∷ es) ≡ Some x.1) (same_Some d e (rw under at is)) (rw (cmp_same d.0) refl)
-    by false above bound rest =
-        let after : p < e.0 = bound (rw above at is) in
-        let more : nat_cmp e.0 d.0 ≡ Greater = cmp_greater e.0 d.0 (grind (arith, nat_tests, above, after)) in
-        rw more (rest (rw above at is))
 
 pub begun_none : (es : List (ℕ × ℕ)) (p : ℕ) → first_after p es ≡ None → es ≡ begun_at p es
 begun_none [] p is = refl

@@ -249,18 +249,18 @@ pub covers_empty : (s : FinSet nat_cmp) (from upto : ℕ) → upto ≤ from → 
 covers_empty s from upto none = each_covers s from upto (λ p low high. absurd (omega (arith, none, low, high)))
 
 -- the first entry that passes a test
-pub first_filtered : (t : ℕ × ℕ → Bool) (es : List (ℕ × ℕ)) → slice_get (filter t es) 0 ≡ find t es
+pub first_filtered : {X : Type 0} (t : X → Bool) (xs : List X) → slice_get (filter t xs) 0 ≡ find t xs
 first_filtered t [] = refl
-first_filtered t (e ∷ es) = by (t e) refl (first_filtered t es)
+first_filtered {X} t (x ∷ xs) = by (t x) refl (first_filtered t xs)
   where
-    by : (b : Bool) → t e ≡ b → slice_get (filter t es) 0 ≡ find t es → slice_get (filter t (e ∷ es)) 0 ≡ find t (e ∷ es)
+    by : (b : Bool) → t x ≡ b → slice_get (filter t xs) 0 ≡ find t xs → slice_get (filter t (x ∷ xs)) 0 ≡ find t (x ∷ xs)
     by true passes rest = rw passes refl
     by false fails rest = rw fails rest
 
 from_test : (p q : ℕ) → range_contains nat_cmp (Included p) Unbounded q ≡ nat_le p q
 from_test p q = grind (arith, nat_tests)
 
-after_test : (p q : ℕ) → range_contains nat_cmp (Excluded p) Unbounded q ≡ nat_lt p q
+pub after_test : (p q : ℕ) → range_contains nat_cmp (Excluded p) Unbounded q ≡ nat_lt p q
 after_test p q = grind (arith, nat_tests)
 
 between_test : (low high q : ℕ) → range_contains nat_cmp (Included low) (Excluded high) q ≡ (nat_le low q && nat_lt q high)

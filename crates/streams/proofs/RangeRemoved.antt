@@ -217,15 +217,19 @@ pub cleared_entries : (es dropped removed new : List (ℕ × ℕ)) (low high fro
 cleared_entries es dropped removed new low high from at is less left =
     left ∙ (ap (begun_at high) (less ∙ ap (remove_entry (is_at (nat_cmp high))) is) ∙ ap (λ (n : ℕ). cleared n high es) at)
 
-contains-less : (s : FinSet nat_cmp) (from upto p : ℕ) (b : Bool) → contains s p ≡ b
-    → contains (difference s (span from upto)) p ≡ (b && not (nat_le from p && nat_lt p upto))
-contains-less s from upto p b is = contains-difference nat_cmp_total s (span from upto) p ∙ (λ i. is i && not (contains-span from upto p i))
+pub contains-less : (s : FinSet nat_cmp) (from upto p : ℕ) → contains (difference s (span from upto)) p ≡ (contains s p && not (nat_le from p && nat_lt p upto))
+contains-less s from upto p =
+    contains-difference nat_cmp_total s (span from upto) p ∙ ap (λ (b : Bool). contains s p && not b) (contains-span from upto p)
+
+held_less : (es : List (ℕ × ℕ)) (from upto p : ℕ)
+    → contains (difference (held es) (span from upto)) p ≡ (in_entries es p && not (nat_le from p && nat_lt p upto))
+held_less es from upto p = contains-less (held es) from upto p ∙ ap (λ (b : Bool). b && not (nat_le from p && nat_lt p upto)) (contains-held es p)
 
 pub removed_set : (es : List (ℕ × ℕ)) (from upto : ℕ) → AreApart 0 es → from < upto
     → held (cleared (suc from) upto (with_lower from es)) ≡ difference (held es) (span from upto)
 removed_set es from upto h some = same_set nat_cmp_total nat_cmp-IsAntisymmetric _ _ (λ p.
     contains-held (cleared (suc from) upto (with_lower from es)) p
-    ∙ (removed_is es 0 from upto p h some ∙ sym (contains-less (held es) from upto p (in_entries es p) (contains-held es p))))
+    ∙ (removed_is es 0 from upto p h some ∙ sym (held_less es from upto p)))
 
 from_above : (high p : ℕ) → nat_le high p ≡ not (nat_le 0 p && nat_lt p high)
 from_above high p = grind (arith, nat_tests)
@@ -234,7 +238,7 @@ pub forgotten_set : (es : List (ℕ × ℕ)) (position : ℕ) → AreApart 0 es 
 forgotten_set es position h = same_set nat_cmp_total nat_cmp-IsAntisymmetric _ _ (λ p.
     contains-held (cleared 0 position es) p
     ∙ (cleared_is es 0 0 position p h (ends_from es 0 0 (omega arith) h)
-    ∙ (ap (λ (b : Bool). in_entries es p && b) (from_above position p) ∙ sym (contains-less (held es) 0 position p (in_entries es p) (contains-held es p)))))
+    ∙ (ap (λ (b : Bool). in_entries es p && b) (from_above position p) ∙ sym (held_less es 0 position p))))
 
 pub forgotten_apart : (es : List (ℕ × ℕ)) (position : ℕ) → AreApart 0 es → AreApart 0 (cleared 0 position es)
 forgotten_apart es position h = cleared_apart es 0 0 position 0 h (ends_from es 0 0 (omega arith) h) (omega arith)
@@ -245,4 +249,4 @@ none_out from upto p false none = refl
 
 pub none_removed : (s : FinSet nat_cmp) (from upto : ℕ) → upto ≤ from → s ≡ difference s (span from upto)
 none_removed s from upto none = same_set nat_cmp_total nat_cmp-IsAntisymmetric _ _ (λ p.
-    none_out from upto p (contains s p) none ∙ sym (contains-less s from upto p (contains s p) refl))
+    none_out from upto p (contains s p) none ∙ sym (contains-less s from upto p))
