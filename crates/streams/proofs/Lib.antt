@@ -12,6 +12,7 @@ pub mod RangeLemmas
 pub mod RangeEdits
 pub mod RangeRemoved
 pub mod RangeAdded
+pub mod PieceLemmas
 pub mod MadeLemmas
 pub mod ReadLemmas
 pub mod Thens

@@ -6,6 +6,7 @@ pub mod Transmissions
 pub mod Marks
 pub mod Ranges
 pub mod RangeEntries
+pub mod Pieces
 pub mod Forgetting
 pub mod InOrder
 pub mod Views

@@ -25,6 +25,8 @@ mod cell;
 mod cell_queue;
 mod laws;
 mod marks;
+mod outstanding;
+mod piece;
 mod ranges;
 mod receive;
 mod runs;
@@ -36,6 +38,7 @@ pub use cell::Cell;
 pub use laws::{
     forgetting_streams, forgetting_transmissions, starts_are_prefixes, streams_in_order,
 };
+pub use outstanding::Outstanding;
 pub use ranges::Ranges;
 pub use receive::ReceiveBuffer;
 pub use send::SendBuffer;

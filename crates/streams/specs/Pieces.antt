@@ -1,0 +1,55 @@
+-- What is known of outstanding positions, and the pieces that keep it: for each the position after it, with its first one.
+use Rattle.std.specs.Prelude.{ℕ, zero, suc, ◌-◌, ◌<◌, ◌≡◌, ◌≤◌, Bool, true, false, ◌&&◌, not, nat_le, nat_lt, if◌then◌else◌, max}
+use Rattle.std.specs.Prelude.{List, [], ◌∷◌, ◌++◌, Option, None, Some, find, filter, ⊤}
+use Rattle.std.specs.Ordering.{nat_cmp}
+use Rattle.std.specs.Map.{set_value}
+use Rattle.std.specs.BTreeMap.{insert_entry, is_at}
+use Rattle.streams.specs.declared.outstanding.Outstanding.{Outstanding}
+use Rattle.streams.specs.declared.piece.Piece.{Piece}
+
+-- a position that no segment ends with
+abbrev pub inner : Outstanding → Outstanding
+inner x = record x { last = false }
+
+-- this many positions that are alike, of which the last one may end its segment
+abbrev pub alike : Outstanding → ℕ → List Outstanding
+alike x zero = []
+alike x (suc zero) = x ∷ []
+alike x (suc (suc count)) = inner x ∷ alike x (suc count)
+
+-- the pieces, position by position
+abbrev pub shown : List (ℕ × Piece) → List Outstanding
+shown [] = []
+shown (e ∷ pieces) = alike e.1.state (e.0 - e.1.start) ++ shown pieces
+
+-- none of the pieces is empty, each begins where the one before ends, and together they go from one position to before the other
+abbrev pub Adjoin : (from upto : ℕ) → List (ℕ × Piece) → Type 0
+Adjoin from upto [] = from ≡ upto
+Adjoin from upto (e ∷ pieces) = (e.1.start ≡ from) × (from < e.0) × Adjoin e.0 upto pieces
+
+-- no piece begins before this position and ends after it
+abbrev pub IsCut : ℕ → List (ℕ × Piece) → Type 0
+IsCut position [] = ⊤
+IsCut position (e ∷ pieces) = ((nat_lt e.1.start position && nat_lt position e.0) ≡ false) × IsCut position pieces
+
+-- the first piece that ends after this position
+abbrev pub piece_after : ℕ → List (ℕ × Piece) → Option (ℕ × Piece)
+piece_after position pieces = find (λ e. nat_lt position e.0) pieces
+
+-- the part of a piece below a position, and the part from there on
+abbrev pub lower : Piece → Piece
+lower piece = record piece { state = inner piece.state }
+
+abbrev pub upper : ℕ → Piece → Piece
+upper position piece = record piece { start = position }
+
+-- a piece that begins before a position and ends after it becomes two
+abbrev pub cut_in : ℕ → List (ℕ × Piece) → Option (ℕ × Piece) → List (ℕ × Piece)
+cut_in position pieces None = pieces
+cut_in position pieces (Some e) =
+    if nat_lt e.1.start position
+    then set_value (is_at (nat_cmp e.0)) (insert_entry nat_cmp pieces position (lower e.1)) (upper position e.1)
+    else pieces
+
+abbrev pub cut : ℕ → List (ℕ × Piece) → List (ℕ × Piece)
+cut position pieces = cut_in position pieces (piece_after position pieces)

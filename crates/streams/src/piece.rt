@@ -1,0 +1,60 @@
+//! Pieces of what is outstanding: consecutive positions that were built last with one segment, and of which the same is
+//! known.
+//!
+//! A piece is found by the position after it, so its first position can rise without a new key.
+
+ghost use Rattle.std.specs.Prelude.{◌≡◌, OnOk, OnErr};
+ghost use Rattle.streams.specs.Pieces.{cut, piece_after};
+
+use super::outstanding::Outstanding;
+use std::alloc::AllocError;
+use std::collections::BTreeMap;
+use std::ops::Bound;
+
+/// Positions of which the same is known, except that only the last one may end its segment.
+#[derive(Clone, Copy)]
+pub(crate) struct Piece {
+    /// The first position.
+    pub(crate) start: u64,
+    /// What is known of the last one.
+    pub(crate) state: Outstanding,
+}
+
+/// Makes two pieces of one that begins before a position and ends after it. The error means that memory ran out; nothing
+/// changes then.
+pub(crate) fn cut(pieces: &mut BTreeMap<u64, Piece>, position: u64) -> Result<(), AllocError>
+    ensures ok { OnOk result (pieces.new.entries ≡ cut position pieces.old.entries) }
+    ensures err { OnErr result (pieces.new.entries ≡ pieces.old.entries) }
+{
+    let Some((end, piece)) = piece_after(pieces, position) else {
+        return Ok(());
+    };
+    if position <= piece.start {
+        return Ok(());
+    }
+    let state = Outstanding {
+        last: false,
+        ..piece.state
+    };
+    pieces.insert(position, Piece { state, ..piece })?;
+    if let Some(upper) = pieces.get_mut(&end) {
+        *upper = Piece {
+            start: position,
+            ..piece
+        };
+    }
+    Ok(())
+}
+
+// The first piece that ends after a position, with its end.
+fn piece_after(pieces: &BTreeMap<u64, Piece>, position: u64) -> Option<(u64, Piece)>
+    ensures { result ≡ piece_after position pieces.now.entries }
+{
+    match pieces
+        .range((Bound::Excluded(position), Bound::Unbounded))
+        .next()
+    {
+        Some((end, piece)) => Some((*end, *piece)),
+        None => None,
+    }
+}
