@@ -1,9 +1,10 @@
 -- What is known of outstanding positions, and the pieces that keep it: for each the position after it, with its first one.
 use Rattle.std.specs.Prelude.{ℕ, zero, suc, ◌-◌, ◌<◌, ◌≡◌, ◌≤◌, Bool, true, false, ◌&&◌, not, nat_le, nat_lt, if◌then◌else◌, max}
-use Rattle.std.specs.Prelude.{List, [], ◌∷◌, ◌++◌, Option, None, Some, find, filter, ⊤}
+use Rattle.std.specs.Prelude.{List, [], ◌∷◌, ◌++◌, Option, None, Some, find, map, replicate, ⊤}
 use Rattle.std.specs.Ordering.{nat_cmp}
 use Rattle.std.specs.Map.{set_value}
 use Rattle.std.specs.BTreeMap.{insert_entry, is_at}
+use Rattle.streams.specs.Lists.{covered}
 use Rattle.streams.specs.declared.outstanding.Outstanding.{Outstanding}
 use Rattle.streams.specs.declared.piece.Piece.{Piece}
 
@@ -53,3 +54,24 @@ cut_in position pieces (Some e) =
 
 abbrev pub cut : ℕ → List (ℕ × Piece) → List (ℕ × Piece)
 cut position pieces = cut_in position pieces (piece_after position pieces)
+
+-- the pieces that end after a position
+abbrev pub past : ℕ → List (ℕ × Piece) → List (ℕ × Piece)
+past position [] = []
+past position (e ∷ pieces) = if nat_le e.0 position then past position pieces else e ∷ pieces
+
+-- the first piece that ends after a position loses what lies below it
+abbrev pub begun_in : ℕ → List (ℕ × Piece) → Option (ℕ × Piece) → List (ℕ × Piece)
+begun_in position pieces None = pieces
+begun_in position pieces (Some e) = set_value (is_at (nat_cmp e.0)) pieces (upper (max e.1.start position) e.1)
+
+abbrev pub begun : ℕ → List (ℕ × Piece) → List (ℕ × Piece)
+begun position pieces = begun_in position pieces (piece_after position pieces)
+
+-- of an acknowledged position nothing is known any more
+abbrev pub known : ℕ → List (ℕ × Piece) → List (Option Outstanding)
+known snd_una pieces = replicate snd_una None ++ map (λ x. Some x) (shown pieces)
+
+-- the acknowledged positions are forgotten
+abbrev pub known_from : ℕ → List (Option Outstanding) → List (Option Outstanding)
+known_from snd_una all = covered None snd_una all

@@ -23,6 +23,7 @@ mod byte_places;
 mod byte_queue;
 mod cell;
 mod cell_queue;
+mod flight;
 mod laws;
 mod marks;
 mod outstanding;
@@ -35,6 +36,7 @@ mod transmission;
 mod transmissions;
 
 pub use cell::Cell;
+pub use flight::Flight;
 pub use laws::{
     forgetting_streams, forgetting_transmissions, starts_are_prefixes, streams_in_order,
 };

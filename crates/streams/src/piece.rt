@@ -3,8 +3,9 @@
 //!
 //! A piece is found by the position after it, so its first position can rise without a new key.
 
-ghost use Rattle.std.specs.Prelude.{◌≡◌, OnOk, OnErr};
-ghost use Rattle.streams.specs.Pieces.{cut, piece_after};
+ghost use Rattle.std.specs.Prelude.{◌≡◌, ◌≤◌, ℕ, ◌∷◌, true, false, OnOk, OnErr};
+ghost use Rattle.streams.specs.declared.piece.Piece.{Piece};
+ghost use Rattle.streams.specs.Pieces.{begun, cut, past, piece_after};
 
 use super::outstanding::Outstanding;
 use std::alloc::AllocError;
@@ -44,6 +45,44 @@ pub(crate) fn cut(pieces: &mut BTreeMap<u64, Piece>, position: u64) -> Result<()
         };
     }
     Ok(())
+}
+
+/// Drops the pieces that end at a position or before it.
+pub(crate) fn drop_through(pieces: &mut BTreeMap<u64, Piece>, position: u64)
+    ensures { pieces.new.entries ≡ past position pieces.old.entries }
+{
+    while pop_through(pieces, position) {}
+}
+
+// Drops the first piece if it ends at a position or before it. Answers whether it does.
+fn pop_through(pieces: &mut BTreeMap<u64, Piece>, position: u64) -> bool
+    ensures popped { result ≡ true → (e : ℕ × Piece) × (pieces.old.entries ≡ e ∷ pieces.new.entries)
+        × (e.0 ≤ position) }
+    ensures none { result ≡ false → past position pieces.old.entries ≡ pieces.old.entries }
+    ensures kept { result ≡ false → pieces.new.entries ≡ pieces.old.entries }
+{
+    let Some((end, _)) = pieces.first_key_value() else {
+        return false;
+    };
+    if position < *end {
+        return false;
+    }
+    pieces.pop_first().is_some()
+}
+
+/// The first piece that ends after a position loses what lies below it.
+pub(crate) fn begin_at(pieces: &mut BTreeMap<u64, Piece>, position: u64)
+    ensures { pieces.new.entries ≡ begun position pieces.old.entries }
+{
+    let Some((end, piece)) = piece_after(pieces, position) else {
+        return;
+    };
+    if let Some(first) = pieces.get_mut(&end) {
+        *first = Piece {
+            start: piece.start.max(position),
+            ..piece
+        };
+    }
 }
 
 // The first piece that ends after a position, with its end.
