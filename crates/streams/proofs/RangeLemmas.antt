@@ -274,9 +274,9 @@ pub first_after_is : (es r : List (ℕ × ℕ)) (p : ℕ) → r ≡ entries_betw
 first_after_is es r p is =
     ap (λ (xs : List (ℕ × ℕ)). slice_get xs 0) is ∙ (first_filtered (λ e. range_contains nat_cmp (Excluded p) Unbounded e.0) es ∙ (λ i. find (λ e. after_test p e.0 i) es))
 
-pub first_between_is : (es r : List (ℕ × ℕ)) (low high : ℕ) → r ≡ entries_between nat_cmp (Included low) (Excluded high) es
+pub first_between_is : {X : Type 0} (es r : List (ℕ × X)) (low high : ℕ) → r ≡ entries_between nat_cmp (Included low) (Excluded high) es
     → option_map (λ e. e.0) (slice_get r 0) ≡ first_between low high es
-first_between_is es r low high is =
-    ap (λ (xs : List (ℕ × ℕ)). option_map (λ (e : ℕ × ℕ). e.0) (slice_get xs 0)) is
-    ∙ (ap (λ (o : Option (ℕ × ℕ)). option_map (λ (e : ℕ × ℕ). e.0) o) (first_filtered (λ e. range_contains nat_cmp (Included low) (Excluded high) e.0) es)
-    ∙ (λ i. option_map (λ (e : ℕ × ℕ). e.0) (find (λ e. between_test low high e.0 i) es)))
+first_between_is {X} es r low high is =
+    ap (λ (xs : List (ℕ × X)). option_map (λ (e : ℕ × X). e.0) (slice_get xs 0)) is
+    ∙ (ap (λ (o : Option (ℕ × X)). option_map (λ (e : ℕ × X). e.0) o) (first_filtered (λ e. range_contains nat_cmp (Included low) (Excluded high) e.0) es)
+    ∙ (λ i. option_map (λ (e : ℕ × X). e.0) (find (λ e. between_test low high e.0 i) es)))

@@ -30,12 +30,12 @@ first_from position entries = find (λ e. nat_le position e.0) entries
 abbrev pub first_after : ℕ → List (ℕ × ℕ) → Option (ℕ × ℕ)
 first_after position entries = find (λ e. nat_lt position e.0) entries
 
--- the first end of a range from `low` to before `high`
-abbrev pub first_between : (low high : ℕ) → List (ℕ × ℕ) → Option ℕ
+-- the first end from `low` to before `high`
+abbrev pub first_between : {X : Type 0} → (low high : ℕ) → List (ℕ × X) → Option ℕ
 first_between low high entries = option_map (λ e. e.0) (find (λ e. nat_le low e.0 && nat_lt e.0 high) entries)
 
--- the ranges without those that end from `low` to before `high`
-abbrev pub without : (low high : ℕ) → List (ℕ × ℕ) → List (ℕ × ℕ)
+-- what ends from `low` to before `high` is gone
+abbrev pub without : {X : Type 0} → (low high : ℕ) → List (ℕ × X) → List (ℕ × X)
 without low high entries = filter (λ e. not (nat_le low e.0 && nat_lt e.0 high)) entries
 
 -- where a range begins that is added from a position on, by the first range that ends there or after it

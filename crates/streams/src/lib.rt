@@ -19,6 +19,7 @@
 //! read or sent.
 #![tactic(auto)]
 
+mod by_end;
 mod byte_places;
 mod byte_queue;
 mod cell;

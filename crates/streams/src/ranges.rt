@@ -5,11 +5,12 @@
 //! to be allocated where the lowest positions are forgotten. `specs/Ranges` defines what sets of positions need beyond
 //! the words of finite sets; `specs/RangeEntries` says how one is kept.
 
-ghost use Rattle.std.specs.Prelude.{◌≡◌, ◌≤◌, OnOk, OnErr};
+ghost use Rattle.std.specs.Prelude.{◌≡◌, OnOk, OnErr};
 ghost use Rattle.std.specs.FinSet as set;
 ghost use Rattle.streams.specs.Ranges.{covers, meets, span};
-ghost use Rattle.streams.specs.RangeEntries.{begun_at, first_after, first_between, first_from, joined_end, joined_start, with_lower, without};
+ghost use Rattle.streams.specs.RangeEntries.{begun_at, first_after, first_from, joined_end, joined_start, with_lower};
 
+use super::by_end::drop_between;
 use std::alloc::{AllocError, Global};
 use std::collections::BTreeMap;
 use std::marker::Model;
@@ -167,27 +168,6 @@ fn joined_end(starts: &BTreeMap<u64, u64>, upto: u64) -> u64
     match ending_from(starts, upto) {
         Some((end, start)) if start <= upto => end,
         _ => upto,
-    }
-}
-
-// Drops the ranges that end from `low` to before `high`.
-fn drop_between(starts: &mut BTreeMap<u64, u64>, low: u64, high: u64)
-    requires { low ≤ high }
-    ensures { starts.new.entries ≡ without low high starts.old.entries }
-{
-    while let Some(end) = end_between(starts, low, high) {
-        starts.remove(&end);
-    }
-}
-
-// The first end of a range from `low` to before `high`.
-fn end_between(starts: &BTreeMap<u64, u64>, low: u64, high: u64) -> Option<u64>
-    requires { low ≤ high }
-    ensures { result ≡ first_between low high starts.now.entries }
-{
-    match starts.range(low..high).next() {
-        Some((end, _)) => Some(*end),
-        None => None,
     }
 }
 

@@ -11,7 +11,7 @@ returns-then-upto-from-clause-ok c = none_removed c.args.self.now c.args.from c.
 
 entries : (c : goal.After-begin_at) → c.begin_at.new.starts.entries ≡ cleared (suc c.args.from) c.args.upto (with_lower c.args.from c.self.inside.starts.entries)
 entries c =
-    cleared_entries c.keep_lower.new.starts.entries c.drop_between.new.starts.entries c.remove.new.self.entries c.begin_at.new.starts.entries
+    cleared_entries c.keep_lower.new.starts.entries c.drop_between.new.map.entries c.remove.new.self.entries c.begin_at.new.starts.entries
     (c.args.from + 1) c.args.upto (suc c.args.from) (omega arith) c.drop_between.ensures c.remove.ensures.entries c.begin_at.ensures
     ∙ ap (cleared (suc c.args.from) c.args.upto) c.in_ok-keep_lower.ensures.ok
 
