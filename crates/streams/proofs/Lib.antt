@@ -13,6 +13,8 @@ pub mod RangeEdits
 pub mod RangeRemoved
 pub mod RangeAdded
 pub mod PieceLemmas
+pub mod PieceJoins
+pub mod PieceMakes
 pub mod MadeLemmas
 pub mod ReadLemmas
 pub mod Thens

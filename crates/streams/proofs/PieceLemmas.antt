@@ -47,7 +47,7 @@ after_in (e ∷ es) from upto p d h is = by (nat_lt p e.0) refl (λ later. after
         (omega (arith, low, size), later.1, later.2)
 
 -- what cutting makes of the first piece
-cut_later : (e : ℕ × Piece) (es : List (ℕ × Piece)) (upto p : ℕ) → e.0 ≤ p → Adjoin e.0 upto es → cut p (e ∷ es) ≡ e ∷ cut p es
+pub cut_later : (e : ℕ × Piece) (es : List (ℕ × Piece)) (upto p : ℕ) → e.0 ≤ p → Adjoin e.0 upto es → cut p (e ∷ es) ≡ e ∷ cut p es
 cut_later e es upto p under h =
     let passed : nat_lt p e.0 ≡ false = grind (arith, nat_tests, under) in
     rw passed (by (piece_after p es) refl)
@@ -66,7 +66,7 @@ cut_later e es upto p under h =
             let past : nat_cmp d.0 e.0 ≡ Greater = cmp_greater d.0 e.0 (omega (arith, low, size)) in
             rw (begun, more, past) refl
 
-cut_here : (e : ℕ × Piece) (es : List (ℕ × Piece)) (p : ℕ) → p < e.0 → e.1.start < p → cut p (e ∷ es) ≡ (p, lower e.1) ∷ (e.0, upper p e.1) ∷ es
+pub cut_here : (e : ℕ × Piece) (es : List (ℕ × Piece)) (p : ℕ) → p < e.0 → e.1.start < p → cut p (e ∷ es) ≡ (p, lower e.1) ∷ (e.0, upper p e.1) ∷ es
 cut_here e es p over begun =
     let after : nat_lt p e.0 ≡ true = grind (arith, nat_tests, over) in
     let here : nat_lt e.1.start p ≡ true = grind (arith, nat_tests, begun) in
@@ -74,7 +74,7 @@ cut_here e es p over begun =
     let past : nat_cmp e.0 p ≡ Greater = cmp_greater e.0 p over in
     rw (after, here, less, past, cmp_same e.0) refl
 
-cut_whole : (e : ℕ × Piece) (es : List (ℕ × Piece)) (p : ℕ) → p < e.0 → p ≤ e.1.start → cut p (e ∷ es) ≡ e ∷ es
+pub cut_whole : (e : ℕ × Piece) (es : List (ℕ × Piece)) (p : ℕ) → p < e.0 → p ≤ e.1.start → cut p (e ∷ es) ≡ e ∷ es
 cut_whole e es p over late =
     let after : nat_lt p e.0 ≡ true = grind (arith, nat_tests, over) in
     let behind : nat_lt e.1.start p ≡ false = grind (arith, nat_tests, late) in
@@ -191,7 +191,7 @@ past_here e es p over =
     let after : nat_lt p e.0 ≡ true = grind (arith, nat_tests, over) in
     rw (stays, after, cmp_same e.0) refl
 
-drop_all : {X : Type 0} (k n : ℕ) (xs ys : List X) → length xs ≡ n → n ≤ k → drop (k - n) ys ≡ drop k (xs ++ ys)
+pub drop_all : {X : Type 0} (k n : ℕ) (xs ys : List X) → length xs ≡ n → n ≤ k → drop (k - n) ys ≡ drop k (xs ++ ys)
 drop_all {X} k n xs ys long under =
     let all : length xs + (k - n) ≡ k = omega (arith, long, under) in
     sym (drop-append-add xs ys (k - n)) ∙ ap (λ (m : ℕ). drop {A = X} m (xs ++ ys)) all

@@ -1,10 +1,11 @@
 -- What is known of outstanding positions, and the pieces that keep it: for each the position after it, with its first one.
-use Rattle.std.specs.Prelude.{ℕ, zero, suc, ◌-◌, ◌<◌, ◌≡◌, ◌≤◌, Bool, true, false, ◌&&◌, not, nat_le, nat_lt, if◌then◌else◌, max}
+use Rattle.std.specs.Prelude.{ℕ, zero, suc, ◌+◌, ◌-◌, ◌<◌, ◌≡◌, ◌≤◌, Bool, true, false, ◌&&◌, not, nat_le, nat_lt, if◌then◌else◌, max, min, take, drop}
 use Rattle.std.specs.Prelude.{List, [], ◌∷◌, ◌++◌, Option, None, Some, find, map, replicate, ⊤}
 use Rattle.std.specs.Ordering.{nat_cmp}
 use Rattle.std.specs.Map.{set_value}
 use Rattle.std.specs.BTreeMap.{insert_entry, is_at}
 use Rattle.streams.specs.Lists.{covered}
+use Rattle.streams.specs.RangeEntries.{without}
 use Rattle.streams.specs.declared.outstanding.Outstanding.{Outstanding}
 use Rattle.streams.specs.declared.piece.Piece.{Piece}
 
@@ -67,6 +68,31 @@ begun_in position pieces (Some e) = set_value (is_at (nat_cmp e.0)) pieces (uppe
 
 abbrev pub begun : ℕ → List (ℕ × Piece) → List (ℕ × Piece)
 begun position pieces = begun_in position pieces (piece_after position pieces)
+
+-- one piece takes the place of those from a position to before another
+abbrev pub joined : (from upto : ℕ) → Outstanding → List (ℕ × Piece) → List (ℕ × Piece)
+joined from upto state pieces = set_value (is_at (nat_cmp upto)) (without (from + 1) upto pieces) (record { start = from; state = state })
+
+abbrev pub joined_if : (from upto : ℕ) → Outstanding → List (ℕ × Piece) → List (ℕ × Piece)
+joined_if from upto state pieces = if nat_lt from upto then joined from upto state pieces else pieces
+
+-- one more piece behind the others, which end at a position, if it isn't empty
+abbrev pub grown : (end upto : ℕ) → Outstanding → List (ℕ × Piece) → List (ℕ × Piece)
+grown end upto state pieces = if nat_lt end upto then insert_entry nat_cmp pieces upto (record { start = end; state = state }) else pieces
+
+-- the last position of a segment that was outstanding before, and of one that wasn't
+abbrev pub built_again : (number moment : ℕ) → Bool → Outstanding
+built_again number moment last = record { number = number; moment = moment; again = true; last = last; told = false }
+
+abbrev pub built_first : (number moment : ℕ) → Outstanding
+built_first number moment = record { number = number; moment = moment; again = false; last = true; told = false }
+
+-- what is shown from a position on, of pieces that end at another, once a segment was built
+abbrev pub rebuilt : (from end position upto number moment : ℕ) → List Outstanding → List Outstanding
+rebuilt from end position upto number moment all =
+    (take (position - from) all
+        ++ (alike (built_again number moment (nat_le upto end)) (min upto end - position) ++ drop (min upto end - from) all))
+    ++ alike (built_first number moment) (upto - end)
 
 -- of an acknowledged position nothing is known any more
 abbrev pub known : ℕ → List (ℕ × Piece) → List (Option Outstanding)

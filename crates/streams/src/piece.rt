@@ -3,10 +3,11 @@
 //!
 //! A piece is found by the position after it, so its first position can rise without a new key.
 
-ghost use Rattle.std.specs.Prelude.{◌≡◌, ◌≤◌, ℕ, ◌∷◌, true, false, OnOk, OnErr};
+ghost use Rattle.std.specs.Prelude.{◌≡◌, ◌≤◌, ℕ, max, ◌∷◌, true, false, OnOk, OnErr};
 ghost use Rattle.streams.specs.declared.piece.Piece.{Piece};
-ghost use Rattle.streams.specs.Pieces.{begun, cut, past, piece_after};
+ghost use Rattle.streams.specs.Pieces.{Adjoin, begun, cut, grown, joined_if, past, piece_after, rebuilt, shown};
 
+use super::by_end::drop_between;
 use super::outstanding::Outstanding;
 use std::alloc::AllocError;
 use std::collections::BTreeMap;
@@ -21,9 +22,9 @@ pub(crate) struct Piece {
     pub(crate) state: Outstanding,
 }
 
-/// Makes two pieces of one that begins before a position and ends after it. The error means that memory ran out; nothing
-/// changes then.
-pub(crate) fn cut(pieces: &mut BTreeMap<u64, Piece>, position: u64) -> Result<(), AllocError>
+// Makes two pieces of one that begins before a position and ends after it. The error means that memory ran out; nothing
+// changes then.
+fn cut(pieces: &mut BTreeMap<u64, Piece>, position: u64) -> Result<(), AllocError>
     ensures ok { OnOk result (pieces.new.entries ≡ cut position pieces.old.entries) }
     ensures err { OnErr result (pieces.new.entries ≡ pieces.old.entries) }
 {
@@ -82,6 +83,69 @@ pub(crate) fn begin_at(pieces: &mut BTreeMap<u64, Piece>, position: u64)
             start: piece.start.max(position),
             ..piece
         };
+    }
+}
+
+/// Takes a segment that was built: the positions from this one to before `upto`. The pieces end at `end`. The error means
+/// that memory ran out; nothing that is known changes then.
+pub(crate) fn make(
+    pieces: &mut BTreeMap<u64, Piece>,
+    end: u64,
+    position: u64,
+    upto: u64,
+    number: u64,
+    moment: u64,
+) -> Result<(), AllocError>
+    requires { position ≤ end }
+    ensures made { OnOk result ((from : ℕ) → Adjoin from end pieces.old.entries → from ≤ position → position ≤ upto
+        → (shown pieces.new.entries ≡ rebuilt from end position upto number moment (shown pieces.old.entries))
+        × Adjoin from (max end upto) pieces.new.entries) }
+    ensures err { OnErr result ((from : ℕ) → Adjoin from end pieces.old.entries
+        → (shown pieces.new.entries ≡ shown pieces.old.entries) × Adjoin from end pieces.new.entries) }
+{
+    let old_end = upto.min(end);
+    cut(pieces, position)?;
+    cut(pieces, old_end)?;
+    let mut state = Outstanding {
+        number,
+        moment,
+        again: false,
+        last: true,
+        told: false,
+    };
+    grow(pieces, end, upto, state)?;
+    state.again = true;
+    state.last = upto <= end;
+    join(pieces, position, old_end, state);
+    Ok(())
+}
+
+// Adds a piece behind the others, which end at a position, if it isn't empty.
+fn grow(
+    pieces: &mut BTreeMap<u64, Piece>,
+    end: u64,
+    upto: u64,
+    state: Outstanding,
+) -> Result<(), AllocError>
+    ensures ok { OnOk result (pieces.new.entries ≡ grown end upto state pieces.old.entries) }
+    ensures err { OnErr result (pieces.new.entries ≡ pieces.old.entries) }
+{
+    if end < upto {
+        pieces.insert(upto, Piece { start: end, state })?;
+    }
+    Ok(())
+}
+
+// One piece takes the place of those from a position to before another, if one of them ends there.
+fn join(pieces: &mut BTreeMap<u64, Piece>, from: u64, upto: u64, state: Outstanding)
+    ensures { pieces.new.entries ≡ joined_if from upto state pieces.old.entries }
+{
+    if upto <= from {
+        return;
+    }
+    drop_between(pieces, from + 1, upto);
+    if let Some(last) = pieces.get_mut(&upto) {
+        *last = Piece { start: from, state };
     }
 }
 
