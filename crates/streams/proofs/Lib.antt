@@ -15,6 +15,7 @@ pub mod RangeAdded
 pub mod PieceLemmas
 pub mod PieceJoins
 pub mod PieceMakes
+pub mod FlightLemmas
 pub mod MadeLemmas
 pub mod ReadLemmas
 pub mod Thens

@@ -101,7 +101,7 @@ pub record Joins (first end from upto : ℕ) (s : Outstanding) (es new : List (�
   pub view : shown new ≡ take (from - first) (shown es) ++ (alike s (upto - from) ++ drop (upto - first) (shown es))
   pub adjoin : Adjoin first end new
 
-take_all : {X : Type 0} (k n : ℕ) (xs ys : List X) → length xs ≡ n → n ≤ k → xs ++ take (k - n) ys ≡ take k (xs ++ ys)
+pub take_all : {X : Type 0} (k n : ℕ) (xs ys : List X) → length xs ≡ n → n ≤ k → xs ++ take (k - n) ys ≡ take k (xs ++ ys)
 take_all {X} k n xs ys long under =
     let all : length xs + (k - n) ≡ k = omega (arith, long, under) in
     sym (take-append-add xs ys (k - n)) ∙ ap (λ (m : ℕ). take {A = X} m (xs ++ ys)) all

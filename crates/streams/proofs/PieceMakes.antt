@@ -132,3 +132,17 @@ is_rebuilt es first second third from end position upto number moment h low fits
               ∙ (λ i. take (position - from) (shown es) ++ (alike (built_again number moment (nat_le upto end)) (sym none i) ++ drop (sym same i - from) (shown es))));
           adjoin = more.adjoin;
         })
+
+-- where memory ran out after one cut or two
+pub kept_once : (es first new : List (ℕ × Piece)) (from end p : ℕ) → Adjoin from end es → first ≡ cut p es → new ≡ first
+    → (shown new ≡ shown es) × Adjoin from end new
+kept_once es first new from end p h one is =
+    let keeps = subst (Keeps from end p es) (sym (is ∙ one)) (cut_keeps es from end p h) in
+    (keeps.view, keeps.adjoin)
+
+pub kept_twice : (es first second new : List (ℕ × Piece)) (from end p q : ℕ) → Adjoin from end es → first ≡ cut p es → second ≡ cut q first → new ≡ second
+    → (shown new ≡ shown es) × Adjoin from end new
+kept_twice es first second new from end p q h one two is =
+    let once = kept_once es first first from end p h one refl in
+    let twice = kept_once first second new from end q once.1 two is in
+    (twice.0 ∙ once.0, twice.1)

@@ -1,6 +1,6 @@
 -- What is known of outstanding positions, and the pieces that keep it: for each the position after it, with its first one.
 use Rattle.std.specs.Prelude.{ℕ, zero, suc, ◌+◌, ◌-◌, ◌<◌, ◌≡◌, ◌≤◌, Bool, true, false, ◌&&◌, not, nat_le, nat_lt, if◌then◌else◌, max, min, take, drop}
-use Rattle.std.specs.Prelude.{List, [], ◌∷◌, ◌++◌, Option, None, Some, find, map, replicate, ⊤}
+use Rattle.std.specs.Prelude.{List, [], ◌∷◌, ◌++◌, Option, None, Some, find, length, map, replicate, ⊤}
 use Rattle.std.specs.Ordering.{nat_cmp}
 use Rattle.std.specs.Map.{set_value}
 use Rattle.std.specs.BTreeMap.{insert_entry, is_at}
@@ -101,3 +101,21 @@ known snd_una pieces = replicate snd_una None ++ map (λ x. Some x) (shown piece
 -- the acknowledged positions are forgotten
 abbrev pub known_from : ℕ → List (Option Outstanding) → List (Option Outstanding)
 known_from snd_una all = covered None snd_una all
+
+-- how many positions were acknowledged and forgotten
+abbrev pub acknowledged : List (Option Outstanding) → ℕ
+acknowledged [] = 0
+acknowledged (None ∷ all) = suc (acknowledged all)
+acknowledged (Some x ∷ all) = 0
+
+-- a segment is built, with the positions from one to before another: those that are outstanding are built again, the others first
+abbrev pub made_again : (position upto number moment : ℕ) → List (Option Outstanding) → List (Option Outstanding)
+made_again position upto number moment all =
+    map (λ x. Some x) (alike (built_again number moment (nat_le upto (length all))) (min upto (length all) - position))
+
+abbrev pub made_first : (upto number moment : ℕ) → List (Option Outstanding) → List (Option Outstanding)
+made_first upto number moment all = map (λ x. Some x) (alike (built_first number moment) (upto - length all))
+
+abbrev pub made : (position upto number moment : ℕ) → List (Option Outstanding) → List (Option Outstanding)
+made position upto number moment all =
+    (take position all ++ (made_again position upto number moment all ++ drop (min upto (length all)) all)) ++ made_first upto number moment all

@@ -2,11 +2,11 @@
 //!
 //! Of an acknowledged position nothing is known: the list shows `None` there. `specs/Pieces` defines each call.
 
-ghost use Rattle.std.specs.Prelude.{◌≡◌, [], length};
-ghost use Rattle.streams.specs.Pieces.{known_from};
+ghost use Rattle.std.specs.Prelude.{◌≡◌, ◌≤◌, ◌<◌, ◌+◌, ◌^◌, [], length, OnOk, OnErr};
+ghost use Rattle.streams.specs.Pieces.{acknowledged, known_from, made};
 
-use super::piece::{Piece, begin_at, drop_through};
-use std::alloc::Global;
+use super::piece::{Piece, begin_at, drop_through, make};
+use std::alloc::{AllocError, Global};
 use std::collections::BTreeMap;
 use std::marker::Model;
 
@@ -50,6 +50,41 @@ impl Flight {
         ensures { result ≡ length self.now }
     {
         self.end
+    }
+
+    /// Takes a segment that was built at this moment (in microseconds), as the segment of this number, with this many
+    /// positions from this one on. The error means that memory ran out.
+    pub fn make(
+        &mut self,
+        position: u64,
+        count: u64,
+        number: u64,
+        moment: u64,
+    ) -> Result<(), AllocError>
+        requires from { acknowledged self.old ≤ position }
+        requires to { position ≤ length self.old }
+        requires fits { position + count < 2 ^ 63 }
+        ensures ok { OnOk result (self.new ≡ made position (position + count) number moment self.old) }
+        ensures err { OnErr result (self.new ≡ self.old) }
+    {
+        let upto = position + count;
+        make(
+            &mut self.pieces,
+            self.end,
+            position,
+            upto,
+            number,
+            moment,
+        )?;
+        self.end = self.end.max(upto);
+        Ok(())
+    }
+
+    /// The first outstanding position, or the one after the last one that was built.
+    pub fn snd_una(&self) -> u64
+        ensures { result ≡ acknowledged self.now }
+    {
+        self.snd_una
     }
 
     /// Forgets the positions below this one, which were acknowledged.
