@@ -1,11 +1,11 @@
 -- What is known of each position, once a segment was built.
-use Rattle.std.proofs.Common.{◌≡◌, ℕ, zero, suc, ◌+◌, ◌-◌, ◌≤◌, max, min, nat_le, List, [], ◌∷◌, ◌++◌, length, take, drop, refl, sym, ap, ◌∙◌, arith, append_assoc, length-append}
-use Rattle.std.proofs.lemmas.List.{drop-map, length-map, length-replicate, map-append, take-map}
+use Rattle.std.proofs.Common.{◌≡◌, ℕ, zero, suc, ◌-◌, ◌≤◌, min, nat_le, List, [], ◌∷◌, ◌++◌, take, drop, refl, sym, ap, ◌∙◌, arith, append_assoc}
+use Rattle.std.proofs.lemmas.List.{drop-map, length-replicate, map-append, take-map}
 use Rattle.std.specs.Prelude.{Option, None, Some, map, replicate}
 use Rattle.streams.specs.declared.outstanding.Outstanding.{Outstanding}
 use Rattle.streams.specs.declared.piece.Piece.{Piece}
 use Rattle.streams.specs.Pieces.{Adjoin, acknowledged, alike, built_again, built_first, known, made, rebuilt, shown}
-use Rattle.streams.proofs.PieceLemmas.{drop_all, length_known, length_shown}
+use Rattle.streams.proofs.PieceLemmas.{drop_all, length_known}
 use Rattle.streams.proofs.PieceJoins.{take_all}
 
 abbrev some : Outstanding → Option Outstanding
@@ -40,15 +40,15 @@ known_made es new snd_una end position upto number moment h low fits some_more i
     let long = length_known es snd_una end h in
     ap (λ (xs : List Outstanding). replicate snd_una None ++ map some xs) is
     ∙ (ap (λ (xs : List (Option Outstanding)). replicate snd_una None ++ xs)
-        (mapped (position - snd_una) (min upto end - snd_una) (shown es) (alike (built_again number moment (nat_le upto end)) (min upto end - position))
-            (alike (built_first number moment) (upto - end)))
+    (mapped (position - snd_una) (min upto end - snd_una) (shown es) (alike (built_again number moment (nat_le upto end)) (min upto end - position))
+    (alike (built_first number moment) (upto - end)))
     ∙ (behind (replicate snd_una None) (take (position - snd_una) (map some (shown es)))
-        (map some (alike (built_again number moment (nat_le upto end)) (min upto end - position)) ++ drop (min upto end - snd_una) (map some (shown es)))
-        (map some (alike (built_first number moment) (upto - end)))
+    (map some (alike (built_again number moment (nat_le upto end)) (min upto end - position)) ++ drop (min upto end - snd_una) (map some (shown es)))
+    (map some (alike (built_first number moment) (upto - end)))
     ∙ ((λ i. (take_all position snd_una (replicate snd_una None) (map some (shown es)) front low i
-            ++ (map some (alike (built_again number moment (nat_le upto end)) (min upto end - position))
-                ++ drop_all (min upto end) snd_una (replicate snd_una None) (map some (shown es)) front (omega (arith, low, fits, some_more)) i))
-            ++ map some (alike (built_first number moment) (upto - end)))
+    ++ (map some (alike (built_again number moment (nat_le upto end)) (min upto end - position))
+    ++ drop_all (min upto end) snd_una (replicate snd_una None) (map some (shown es)) front (omega (arith, low, fits, some_more)) i))
+    ++ map some (alike (built_first number moment) (upto - end)))
     ∙ ap (λ (n : ℕ). (take position (known snd_una es)
-            ++ (map some (alike (built_again number moment (nat_le upto n)) (min upto n - position)) ++ drop (min upto n) (known snd_una es)))
-            ++ map some (alike (built_first number moment) (upto - n))) (sym long))))
+    ++ (map some (alike (built_again number moment (nat_le upto n)) (min upto n - position)) ++ drop (min upto n) (known snd_una es)))
+    ++ map some (alike (built_first number moment) (upto - n))) (sym long))))

@@ -1,9 +1,9 @@
 -- One piece in place of several.
-use Rattle.std.proofs.Common.{◌≡◌, ℕ, suc, ◌+◌, ◌-◌, ◌<◌, ◌≤◌, Bool, true, false, not, ◌&&◌, nat_le, nat_lt, List, [], ◌∷◌, ◌++◌, length, take, drop, refl, sym, ap, ◌∙◌, subst, arith, append_assoc}
+use Rattle.std.proofs.Common.{◌≡◌, ℕ, ◌+◌, ◌-◌, ◌<◌, ◌≤◌, Bool, true, false, ◌&&◌, nat_le, nat_lt, List, [], ◌∷◌, ◌++◌, length, take, drop, refl, sym, ap, ◌∙◌, subst, arith, append_assoc}
 use Rattle.std.proofs.lemmas.Bool.Decides.{nat_tests}
 use Rattle.std.proofs.lemmas.Option.{none-some}
 use Rattle.std.proofs.Math.Seq.{take-append-add}
-use Rattle.std.specs.Prelude.{Option, None, Some}
+use Rattle.std.specs.Prelude.{None}
 use Rattle.std.specs.Ordering.{nat_cmp}
 use Rattle.std.specs.declared.cmp.Ordering.{Ordering}
 use Rattle.std.specs.declared.cmp.Ordering.TheVariants.{Less, Equal, Greater}
@@ -13,7 +13,7 @@ use Rattle.streams.specs.declared.outstanding.Outstanding.{Outstanding}
 use Rattle.streams.specs.declared.piece.Piece.{Piece}
 use Rattle.streams.specs.RangeEntries.{without}
 use Rattle.streams.specs.Pieces.{Adjoin, IsCut, alike, joined, shown}
-use Rattle.streams.proofs.RangeEdits.{cmp_greater, cmp_same}
+use Rattle.streams.proofs.RangeEdits.{cmp_greater}
 use Rattle.streams.proofs.PieceLemmas.{drop_all, length_alike}
 
 pub set_absent : (es : List (ℕ × Piece)) (k : ℕ) (w : Piece) → lookup (is_at (nat_cmp k)) es ≡ None → es ≡ set_value (is_at (nat_cmp k)) es w
@@ -130,11 +130,11 @@ joins (e ∷ es) first end from upto s h low some fits begun apart =
         let front : (from - first) - (e.0 - e.1.start) ≡ from - e.0 = omega (arith, start, size, under) in
         let back : (upto - first) - (e.0 - e.1.start) ≡ upto - e.0 = omega (arith, start, size, under, some) in
         let taken : alike e.1.state (e.0 - e.1.start) ++ take (from - e.0) (shown es) ≡ take (from - first) (shown (e ∷ es)) =
-            ap (λ (n : ℕ). alike e.1.state (e.0 - e.1.start) ++ take n (shown es)) (sym front)
-            ∙ take_all (from - first) (e.0 - e.1.start) (alike e.1.state (e.0 - e.1.start)) (shown es) long (omega (arith, start, size, under)) in
+        ap (λ (n : ℕ). alike e.1.state (e.0 - e.1.start) ++ take n (shown es)) (sym front)
+        ∙ take_all (from - first) (e.0 - e.1.start) (alike e.1.state (e.0 - e.1.start)) (shown es) long (omega (arith, start, size, under)) in
         let left : drop (upto - e.0) (shown es) ≡ drop (upto - first) (shown (e ∷ es)) =
-            ap (λ (n : ℕ). drop n (shown es)) (sym back)
-            ∙ drop_all (upto - first) (e.0 - e.1.start) (alike e.1.state (e.0 - e.1.start)) (shown es) long (omega (arith, start, size, under, some)) in
+        ap (λ (n : ℕ). drop n (shown es)) (sym back)
+        ∙ drop_all (upto - first) (e.0 - e.1.start) (alike e.1.state (e.0 - e.1.start)) (shown es) long (omega (arith, start, size, under, some)) in
         subst (Joins first end from upto s (e ∷ es)) (sym (joined_kept e es from upto s under some)) (record {
           view = ap (λ (xs : List Outstanding). alike e.1.state (e.0 - e.1.start) ++ xs) later.view
               ∙ (sym (append_assoc (alike e.1.state (e.0 - e.1.start)) (take (from - e.0) (shown es)) (alike s (upto - from) ++ drop (upto - e.0) (shown es)))

@@ -1,16 +1,16 @@
 -- A segment that is built: what the pieces show afterwards.
-use Rattle.std.proofs.Common.{◌≡◌, ℕ, zero, suc, ◌+◌, ◌-◌, ◌<◌, ◌≤◌, max, min, Bool, true, false, ◌&&◌, nat_le, nat_lt, List, [], ◌∷◌, ◌++◌, length, take, drop, refl, sym, ap, ◌∙◌, subst, arith, append_assoc}
+use Rattle.std.proofs.Common.{◌≡◌, ℕ, ◌+◌, ◌-◌, ◌<◌, ◌≤◌, max, min, Bool, true, false, ◌&&◌, nat_le, nat_lt, List, [], ◌∷◌, ◌++◌, length, take, drop, refl, sym, ap, ◌∙◌, subst, arith, append_assoc}
 use Rattle.std.proofs.lemmas.Bool.Decides.{nat_tests}
 use Rattle.std.proofs.lemmas.List.{drop-append-le, take-append-drop, take-append-le}
 use Rattle.std.specs.Ordering.{nat_cmp}
-use Rattle.std.specs.declared.cmp.Ordering.TheVariants.{Less, Equal, Greater}
+use Rattle.std.specs.declared.cmp.Ordering.TheVariants.{Greater}
 use Rattle.std.specs.BTreeMap.{insert_entry}
 use Rattle.streams.specs.declared.outstanding.Outstanding.{Outstanding}
 use Rattle.streams.specs.declared.piece.Piece.{Piece}
-use Rattle.streams.specs.Pieces.{Adjoin, IsCut, alike, built_again, built_first, cut, grown, joined, joined_if, lower, rebuilt, shown, upper}
+use Rattle.streams.specs.Pieces.{Adjoin, IsCut, alike, built_again, built_first, cut, grown, joined_if, rebuilt, shown}
 use Rattle.streams.proofs.RangeEdits.{cmp_greater}
 use Rattle.streams.proofs.PieceLemmas.{Keeps, cut_here, cut_keeps, cut_later, cut_whole, length_shown}
-use Rattle.streams.proofs.PieceJoins.{Joins, joins}
+use Rattle.streams.proofs.PieceJoins.{joins}
 
 -- a cut elsewhere makes no piece around a position
 cut_stays : (es : List (ℕ × Piece)) (from upto p q : ℕ) → Adjoin from upto es → IsCut q es → IsCut q (cut p es)
@@ -44,10 +44,10 @@ insert_behind e es upto w under = let more : nat_cmp upto e.0 ≡ Greater = cmp_
 inserted : (es : List (ℕ × Piece)) (from end upto : ℕ) (s : Outstanding) → Adjoin from end es → end < upto
     → Grows from end upto s es (insert_entry nat_cmp es upto (record { start = end; state = s }))
 inserted [] from end upto s h over = let none : from ≡ end = h in record {
-      view = append_none (alike s (upto - end));
-      adjoin = (omega (arith, none), omega (arith, none, over), omega (arith, over));
-      apart = λ q low before. (grind (arith, nat_tests, low), tt);
-    }
+  view = append_none (alike s (upto - end));
+  adjoin = (omega (arith, none), omega (arith, none, over), omega (arith, over));
+  apart = λ q low before. (grind (arith, nat_tests, low), tt);
+}
 inserted (e ∷ es) from end upto s h over =
     let rest = inserted es e.0 end upto s h.2 over in
     let long = length_shown es e.0 end h.2 in
@@ -115,7 +115,7 @@ is_rebuilt es first second third from end position upto number moment h low fits
     by true is =
         let old : position < min upto end = grind (arith, nat_tests, is) in
         let new = joins third from (max end upto) position (min upto end) (built_again number moment (nat_le upto end)) more.adjoin low old (omega arith)
-            (more.apart position fits apart) (more.apart (min upto end) (omega arith) cut_twice.apart) in
+        (more.apart position fits apart) (more.apart (min upto end) (omega arith) cut_twice.apart) in
         rw is (record {
           view = new.view
               ∙ ((λ i. take (position - from) (all i) ++ (alike (built_again number moment (nat_le upto end)) (min upto end - position) ++ drop (min upto end - from) (all i)))

@@ -1,5 +1,5 @@
 -- What is known of outstanding positions, and the pieces that keep it: for each the position after it, with its first one.
-use Rattle.std.specs.Prelude.{ℕ, zero, suc, ◌+◌, ◌-◌, ◌<◌, ◌≡◌, ◌≤◌, Bool, true, false, ◌&&◌, not, nat_le, nat_lt, if◌then◌else◌, max, min, take, drop}
+use Rattle.std.specs.Prelude.{ℕ, zero, suc, ◌+◌, ◌-◌, ◌<◌, ◌≡◌, Bool, true, false, ◌&&◌, nat_le, nat_lt, if◌then◌else◌, max, min, take, drop}
 use Rattle.std.specs.Prelude.{List, [], ◌∷◌, ◌++◌, Option, None, Some, find, length, map, replicate, ⊤}
 use Rattle.std.specs.Ordering.{nat_cmp}
 use Rattle.std.specs.Map.{set_value}
@@ -91,7 +91,7 @@ built_first number moment = record { number = number; moment = moment; again = f
 abbrev pub rebuilt : (from end position upto number moment : ℕ) → List Outstanding → List Outstanding
 rebuilt from end position upto number moment all =
     (take (position - from) all
-        ++ (alike (built_again number moment (nat_le upto end)) (min upto end - position) ++ drop (min upto end - from) all))
+    ++ (alike (built_again number moment (nat_le upto end)) (min upto end - position) ++ drop (min upto end - from) all))
     ++ alike (built_first number moment) (upto - end)
 
 -- of an acknowledged position nothing is known any more

@@ -68,14 +68,7 @@ impl Flight {
         ensures err { OnErr result (self.new ≡ self.old) }
     {
         let upto = position + count;
-        make(
-            &mut self.pieces,
-            self.end,
-            position,
-            upto,
-            number,
-            moment,
-        )?;
+        make(&mut self.pieces, self.end, position, upto, number, moment)?;
         self.end = self.end.max(upto);
         Ok(())
     }

@@ -1,5 +1,4 @@
-use Rattle.std.proofs.Common.{◌≡◌, ◌∙◌, ap, sym, subst, min, nat_le, List, ℕ}
-use Rattle.streams.specs.declared.piece.Piece.{Piece}
+use Rattle.std.proofs.Common.{◌∙◌, ap, sym, subst, nat_le, ℕ}
 use Rattle.streams.specs.Pieces.{built_again, cut, joined_if}
 use Rattle.streams.proofs.MadeLemmas.{on_err}
 use Rattle.streams.proofs.PieceMakes.{IsRebuilt, is_rebuilt, kept_once, kept_twice}
@@ -21,8 +20,8 @@ returns-clause-made c from h low some =
     let g = c.in_ok-grow.ensures.ok in
     let at = c.min-old_end.ensures in
     let built = is_rebuilt c.args.pieces.now.entries c.cut.new.pieces.entries c.cut-2.new.pieces.entries c.grow.new.pieces.entries from c.args.end
-        c.args.position c.args.upto c.args.number c.args.moment h low c.requires some c.in_ok-cut.ensures.ok
-        (c.in_ok-cut-2.ensures.ok ∙ ap (λ (n : ℕ). cut n c.cut.new.pieces.entries) at) g in
+    c.args.position c.args.upto c.args.number c.args.moment h low c.requires some c.in_ok-cut.ensures.ok
+    (c.in_ok-cut-2.ensures.ok ∙ ap (λ (n : ℕ). cut n c.cut.new.pieces.entries) at) g in
     let new = subst (IsRebuilt from c.args.end c.args.position c.args.upto c.args.number c.args.moment c.args.pieces.now.entries)
-        (sym (j ∙ ap (λ (n : ℕ). joined_if c.args.position n (built_again c.args.number c.args.moment (nat_le c.args.upto c.args.end)) c.grow.new.pieces.entries) at)) built in
+    (sym (j ∙ ap (λ (n : ℕ). joined_if c.args.position n (built_again c.args.number c.args.moment (nat_le c.args.upto c.args.end)) c.grow.new.pieces.entries) at)) built in
     (new.view, new.adjoin)

@@ -1,8 +1,7 @@
-use Rattle.std.proofs.Common.{◌≡◌, ◌≤◌, ◌∙◌, ap, subst, sym, arith, List, ℕ}
+use Rattle.std.proofs.Common.{◌≤◌, ◌∙◌, ap, subst, sym, arith, List}
 use Rattle.std.specs.Prelude.{Option}
 use Rattle.streams.specs.declared.outstanding.Outstanding.{Outstanding}
-use Rattle.streams.specs.declared.piece.Piece.{Piece}
-use Rattle.streams.specs.Pieces.{begun, known_from, past}
+use Rattle.streams.specs.Pieces.{begun, known_from}
 use Rattle.streams.proofs.PieceLemmas.{Loses, known_past, known_same, length_shown, past_loses}
 use Rattle.streams.proofs.flight.Flight.forget_below.Goals as goal
 
