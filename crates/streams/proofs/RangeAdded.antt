@@ -5,7 +5,7 @@ use Rattle.std.specs.Ordering.{nat_cmp}
 use Rattle.std.specs.Cmp.{nat_cmp_total}
 use Rattle.std.specs.declared.cmp.Ordering.TheVariants.{Less, Greater}
 use Rattle.std.specs.BTreeMap.{insert_entry}
-use Rattle.std.specs.FinSet.{FinSet, contains, union, same_set, contains-union, nat_cmp-IsAntisymmetric}
+use Rattle.std.specs.FinSet.{FinSet, contains, contains-empty, empty, union, same_set, contains-union, nat_cmp-IsAntisymmetric}
 use Rattle.streams.specs.Ranges.{span}
 use Rattle.streams.specs.RangeEntries.{in_entries, held, AreApart, without, joined_start, joined_end}
 use Rattle.streams.proofs.RangeLemmas.{contains-span, contains-held}
@@ -239,3 +239,7 @@ none_in from upto p false none = grind (arith, nat_tests, none)
 pub none_added : (s : FinSet nat_cmp) (from upto : ℕ) → upto ≤ from → s ≡ union s (span from upto)
 none_added s from upto none = same_set nat_cmp_total nat_cmp-IsAntisymmetric _ _ (λ p.
     none_in from upto p (contains s p) none ∙ sym (contains-more s from upto p))
+
+pub added_alone : (from upto : ℕ) → union empty (span from upto) ≡ span from upto
+added_alone from upto = same_set nat_cmp_total nat_cmp-IsAntisymmetric _ _ (λ p.
+    contains-union nat_cmp_total empty (span from upto) p ∙ ap (λ (b : Bool). b || contains (span from upto) p) (contains-empty nat_cmp p))

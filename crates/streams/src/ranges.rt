@@ -5,7 +5,7 @@
 //! to be allocated where the lowest positions are forgotten. `specs/Ranges` defines what sets of positions need beyond
 //! the words of finite sets; `specs/RangeEntries` says how one is kept.
 
-ghost use Rattle.std.specs.Prelude.{◌≡◌, OnOk, OnErr};
+ghost use Rattle.std.specs.Prelude.{◌≡◌, IfOk, OnOk, OnErr};
 ghost use Rattle.std.specs.FinSet as set;
 ghost use Rattle.streams.specs.Ranges.{covers, meets, span};
 ghost use Rattle.streams.specs.RangeEntries.{begun_at, first_after, first_from, joined_end, joined_start, with_lower};
@@ -46,6 +46,15 @@ impl Ranges {
         Ranges {
             starts: BTreeMap::new(alloc),
         }
+    }
+
+    /// Holds the positions from `from` to before `upto`, and no others. The error means that memory ran out.
+    pub fn spanning(alloc: Global, from: u64, upto: u64) -> Result<Self, AllocError>
+        ensures { IfOk result (λ ranges. ranges ≡ span from upto) }
+    {
+        let mut ranges = Ranges::new(alloc);
+        ranges.add(from, upto)?;
+        Ok(ranges)
     }
 
     /// Adds the positions from `from` to before `upto`. The error means that memory ran out; nothing changes then.
