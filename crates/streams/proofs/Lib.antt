@@ -16,6 +16,7 @@ pub mod PieceLemmas
 pub mod PieceJoins
 pub mod PieceMakes
 pub mod FlightLemmas
+pub mod FlightEnds
 pub mod MadeLemmas
 pub mod ReadLemmas
 pub mod Thens

@@ -1,6 +1,6 @@
 -- What is known of outstanding positions, and the pieces that keep it: for each the position after it, with its first one.
-use Rattle.std.specs.Prelude.{ℕ, zero, suc, ◌+◌, ◌-◌, ◌<◌, ◌≡◌, Bool, true, false, ◌&&◌, nat_le, nat_lt, if◌then◌else◌, max, min, take, drop}
-use Rattle.std.specs.Prelude.{List, [], ◌∷◌, ◌++◌, Option, None, Some, find, length, map, replicate, ⊤}
+use Rattle.std.specs.Prelude.{ℕ, zero, suc, ◌+◌, ◌-◌, ◌<◌, ◌≤◌, ◌≡◌, Bool, true, false, ◌&&◌, nat_le, nat_lt, if◌then◌else◌, max, min, take, drop}
+use Rattle.std.specs.Prelude.{List, [], ◌∷◌, ◌++◌, Option, None, Some, count_by, find, length, map, replicate, ◌==◌, ⊤}
 use Rattle.std.specs.Ordering.{nat_cmp}
 use Rattle.std.specs.Map.{set_value}
 use Rattle.std.specs.BTreeMap.{insert_entry, is_at}
@@ -119,3 +119,18 @@ made_first upto number moment all = map (λ x. Some x) (alike (built_first numbe
 abbrev pub made : (position upto number moment : ℕ) → List (Option Outstanding) → List (Option Outstanding)
 made position upto number moment all =
     (take position all ++ (made_again position upto number moment all ++ drop (min upto (length all)) all)) ++ made_first upto number moment all
+
+-- a position is the last one of the segment of this number
+abbrev pub ends : ℕ → Option Outstanding → Bool
+ends number None = false
+ends number (Some x) = x.last && x.number == number
+
+-- no two positions are the last one of one segment
+abbrev pub EndOnce : List (Option Outstanding) → Type 0
+EndOnce all = (number : ℕ) → count_by (ends number) all ≤ 1
+
+-- that stays so if each segment has a number of its own
+pub record SegmentsEndOnce : Type 0 where
+  pub makes : (position upto number moment : ℕ) (all : List (Option Outstanding)) → EndOnce all → count_by (ends number) all ≡ 0
+      → position ≤ length all → position ≤ upto → EndOnce (made position upto number moment all)
+  pub forgets : (snd_una : ℕ) (all : List (Option Outstanding)) → EndOnce all → EndOnce (known_from snd_una all)

@@ -13,7 +13,7 @@
 //!   the first by segments, `marks` the second by ranges
 //! - `ranges`: a set of positions; `flight`: what is known of each outstanding position, in pieces; both are kept by their
 //!   ends, so `by_end` drops some of either
-//! - `laws`: nothing reads what was discarded, and reads return what the peer sent, in order
+//! - `laws`: nothing reads what was discarded, reads return what the peer sent, in order, and a segment ends once
 //!
 //! Each buffer shows the whole list from position 0 on, with a fixed value in the places of what it discarded. The
 //! contracts use the definitions in specs/. Read `Cells` first, then `Received` and `Sent`, then `Transmissions`; `Ranges`
@@ -41,7 +41,8 @@ mod transmissions;
 pub use cell::Cell;
 pub use flight::Flight;
 pub use laws::{
-    forgetting_streams, forgetting_transmissions, starts_are_prefixes, streams_in_order,
+    forgetting_streams, forgetting_transmissions, segments_end_once, starts_are_prefixes,
+    streams_in_order,
 };
 pub use outstanding::Outstanding;
 pub use ranges::Ranges;
