@@ -1,9 +1,9 @@
 -- How many positions are the last one of a segment.
-use Rattle.std.proofs.Common.{◌≡◌, ℕ, zero, suc, ◌+◌, ◌-◌, ◌<◌, ◌≤◌, min, cond, Bool, true, false, ◌&&◌, nat_le, List, [], ◌∷◌, ◌++◌, length, take, drop, refl, sym, ap, ◌∙◌, subst, arith}
+use Rattle.std.proofs.Common.{◌≡◌, ℕ, zero, suc, ◌+◌, ◌-◌, ◌≤◌, min, cond, Bool, true, false, ◌&&◌, nat_le, List, [], ◌∷◌, ◌++◌, length, take, drop, refl, sym, ap, ◌∙◌, subst, arith}
 use Rattle.std.proofs.lemmas.Bool.Decides.{nat_tests}
 use Rattle.std.proofs.lemmas.List.{drop-drop, take-append-drop}
 use Rattle.std.proofs.lemmas.List.Sums.{sum_by-append}
-use Rattle.std.specs.Prelude.{Option, None, Some, count_by, map, ◌==◌}
+use Rattle.std.specs.Prelude.{Option, Some, count_by, map, ◌==◌}
 use Rattle.streams.specs.declared.outstanding.Outstanding.{Outstanding}
 use Rattle.streams.specs.Pieces.{EndOnce, alike, built_again, built_first, ends, known_from, made, made_again, made_first}
 
@@ -25,7 +25,7 @@ later_count n i j xs low =
     let parts = parts_count n (j - i) (drop i xs) in
     let to : i + (j - i) ≡ j = omega (arith, low) in
     let same : count_by (ends n) (drop (j - i) (drop i xs)) ≡ count_by (ends n) (drop j xs) =
-        ap (count_by (ends n)) (drop-drop (j - i) i xs ∙ ap (λ (m : ℕ). drop m xs) to) in
+    ap (count_by (ends n)) (drop-drop (j - i) i xs ∙ ap (λ (m : ℕ). drop m xs) to) in
     omega (arith, parts, same)
 
 alike_count : (n c : ℕ) (x : Outstanding) → count_by (ends n) (map some (alike x c)) ≤ one_if (ends n (Some x))
@@ -36,7 +36,7 @@ alike_count n (suc (suc c)) x = alike_count n (suc c) x
 covered_count : (n p : ℕ) (xs : List (Option Outstanding)) → count_by (ends n) (known_from p xs) ≤ count_by (ends n) xs
 covered_count n zero xs = omega arith
 covered_count n (suc p) [] = omega arith
-covered_count n (suc p) (x ∷ xs) = 
+covered_count n (suc p) (x ∷ xs) =
     let rest = covered_count n p xs in
     let gone : count_by (ends n) (known_from (suc p) (x ∷ xs)) ≡ count_by (ends n) (known_from p xs) = refl in
     let all = append_count n (x ∷ []) xs in
@@ -87,7 +87,7 @@ made_once position upto number moment all once fresh low high n = by (number == 
         let under : upto ≤ length all = grind (arith, nat_tests, within) in
         let empty : upto - length all ≡ 0 = omega (arith, under) in
         let nothing : count_by (ends n) (made_first upto number moment all) ≡ 0 =
-            ap (λ (m : ℕ). count_by (ends n) (map some (alike (built_first number moment) m))) empty in
+        ap (λ (m : ℕ). count_by (ends n) (map some (alike (built_first number moment) m))) empty in
         let sum = made_count n position upto number moment all in
         omega (arith, again, one, nothing, none, sum, whole, later)
     by true own false within =
