@@ -13,6 +13,10 @@ pub mod RangeEdits
 pub mod RangeRemoved
 pub mod RangeAdded
 pub mod PieceLemmas
+pub mod PieceJoins
+pub mod PieceMakes
+pub mod FlightLemmas
+pub mod FlightEnds
 pub mod MadeLemmas
 pub mod ReadLemmas
 pub mod Thens

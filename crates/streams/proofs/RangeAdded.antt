@@ -5,7 +5,7 @@ use Rattle.std.specs.Ordering.{nat_cmp}
 use Rattle.std.specs.Cmp.{nat_cmp_total}
 use Rattle.std.specs.declared.cmp.Ordering.TheVariants.{Less, Greater}
 use Rattle.std.specs.BTreeMap.{insert_entry}
-use Rattle.std.specs.FinSet.{FinSet, contains, union, same_set, contains-union, nat_cmp-IsAntisymmetric}
+use Rattle.std.specs.FinSet.{FinSet, contains, contains-empty, empty, union, same_set, contains-union, nat_cmp-IsAntisymmetric}
 use Rattle.streams.specs.Ranges.{span}
 use Rattle.streams.specs.RangeEntries.{in_entries, held, AreApart, without, joined_start, joined_end}
 use Rattle.streams.proofs.RangeLemmas.{contains-span, contains-held}
@@ -94,7 +94,8 @@ or_assoc false b c = refl
 -- once each range left ends at `from` or after it
 tail_is : (es : List (ℕ × ℕ)) (from upto start p : ℕ) → AreApart start es → EndsFrom from es → start < upto
     → in_entries (put from (joined_end upto es) start es) p ≡ (in_entries es p || (nat_le start p && nat_lt p upto))
-tail_is [] from upto start p h ends some = ap (λ (xs : List (ℕ × ℕ)). in_entries xs p) (put_none from upto start) ∙ or_swap (nat_le start p && nat_lt p upto) false
+tail_is [] from upto start p h ends some =
+    ap (λ (xs : List (ℕ × ℕ)). in_entries xs p) (put_none from upto start) ∙ or_swap (nat_le start p && nat_lt p upto) false
 tail_is (e ∷ es) from upto start p h ends some =
     by (nat_le upto e.0) refl (nat_le e.1 upto) refl
     (tail_is es from upto start p (apart_low es (suc e.0) start (omega (arith, low, size)) h.2) (ends_from es (suc e.0) from (omega (arith, ends)) h.2) some)
@@ -167,7 +168,8 @@ start_here : (e : ℕ × ℕ) (es : List (ℕ × ℕ)) (from : ℕ) → from ≤
 start_here e es from over = let here : nat_le from e.0 ≡ true = grind (arith, nat_tests, over) in rw here refl
 
 in_start : (end first from upto p : ℕ) (x : Bool) → from ≤ end
-    → (((nat_le first p && nat_lt p end) || x) || (nat_le (min first from) p && nat_lt p upto)) ≡ (((nat_le first p && nat_lt p end) || x) || (nat_le from p && nat_lt p upto))
+    → (((nat_le first p && nat_lt p end) || x) || (nat_le (min first from) p && nat_lt p upto))
+    ≡ (((nat_le first p && nat_lt p end) || x) || (nat_le from p && nat_lt p upto))
 in_start end first from upto p true over = grind (arith, nat_tests)
 in_start end first from upto p false over = grind (arith, nat_tests, over)
 
@@ -239,3 +241,7 @@ none_in from upto p false none = grind (arith, nat_tests, none)
 pub none_added : (s : FinSet nat_cmp) (from upto : ℕ) → upto ≤ from → s ≡ union s (span from upto)
 none_added s from upto none = same_set nat_cmp_total nat_cmp-IsAntisymmetric _ _ (λ p.
     none_in from upto p (contains s p) none ∙ sym (contains-more s from upto p))
+
+pub added_alone : (from upto : ℕ) → union empty (span from upto) ≡ span from upto
+added_alone from upto = same_set nat_cmp_total nat_cmp-IsAntisymmetric _ _ (λ p.
+    contains-union nat_cmp_total empty (span from upto) p ∙ ap (λ (b : Bool). b || contains (span from upto) p) (contains-empty nat_cmp p))

@@ -36,9 +36,9 @@ ends_from (e ∷ es) base low l h = let start : base ≤ e.1 = h.0 in let size :
 
 -- ---- one end after the other is taken out
 
-pub between_bounds : (es : List (ℕ × ℕ)) (low high k : ℕ) → first_between low high es ≡ Some k → (low ≤ k) × (k < high)
+pub between_bounds : {X : Type 0} (es : List (ℕ × X)) (low high k : ℕ) → first_between low high es ≡ Some k → (low ≤ k) × (k < high)
 between_bounds [] low high k is = absurd (none-some k is)
-between_bounds (e ∷ es) low high k is = by (nat_le low e.0 && nat_lt e.0 high) refl (λ later. between_bounds es low high k later)
+between_bounds {X} (e ∷ es) low high k is = by (nat_le low e.0 && nat_lt e.0 high) refl (λ later. between_bounds es low high k later)
   where
     by : (b : Bool) → (nat_le low e.0 && nat_lt e.0 high) ≡ b → (first_between low high es ≡ Some k → (low ≤ k) × (k < high)) → (low ≤ k) × (k < high)
     by true here rest =
@@ -46,14 +46,15 @@ between_bounds (e ∷ es) low high k is = by (nat_le low e.0 && nat_lt e.0 high)
         subst (λ (n : ℕ). (low ≤ n) × (n < high)) same (grind (arith, nat_tests, here), grind (arith, nat_tests, here))
     by false other rest = rest (rw other at is)
 
-pub without_removed : (es : List (ℕ × ℕ)) (low high k : ℕ) → low ≤ k → k < high → without low high (remove_entry (is_at (nat_cmp k)) es) ≡ without low high es
+pub without_removed : {X : Type 0} (es : List (ℕ × X)) (low high k : ℕ) → low ≤ k → k < high
+    → without low high (remove_entry (is_at (nat_cmp k)) es) ≡ without low high es
 without_removed [] low high k l h = refl
-without_removed (e ∷ es) low high k l h = by (nat_cmp k e.0) refl (without_removed es low high k l h)
+without_removed {X} (e ∷ es) low high k l h = by (nat_cmp k e.0) refl (without_removed es low high k l h)
   where
     passed : (b : Bool) → (nat_le low e.0 && nat_lt e.0 high) ≡ b → without low high (remove_entry (is_at (nat_cmp k)) es) ≡ without low high es
         → without low high (e ∷ remove_entry (is_at (nat_cmp k)) es) ≡ without low high (e ∷ es)
     passed true gone rest = rw gone rest
-    passed false stays rest = rw stays (ap (λ (xs : List (ℕ × ℕ)). e ∷ xs) rest)
+    passed false stays rest = rw stays (ap (λ (xs : List (ℕ × X)). e ∷ xs) rest)
 
     by : (o : Ordering) → nat_cmp k e.0 ≡ o → without low high (remove_entry (is_at (nat_cmp k)) es) ≡ without low high es
         → without low high (remove_entry (is_at (nat_cmp k)) (e ∷ es)) ≡ without low high (e ∷ es)
@@ -63,9 +64,10 @@ without_removed (e ∷ es) low high k l h = by (nat_cmp k e.0) refl (without_rem
         let gone : (nat_le low e.0 && nat_lt e.0 high) ≡ true = grind (arith, nat_tests, is, l, h) in
         rw (is, gone) refl
 
-pub removed_shorter : (es : List (ℕ × ℕ)) (low high k : ℕ) → first_between low high es ≡ Some k → length (remove_entry (is_at (nat_cmp k)) es) < length es
+pub removed_shorter : {X : Type 0} (es : List (ℕ × X)) (low high k : ℕ) → first_between low high es ≡ Some k
+    → length (remove_entry (is_at (nat_cmp k)) es) < length es
 removed_shorter [] low high k is = absurd (none-some k is)
-removed_shorter (e ∷ es) low high k is = by (nat_cmp k e.0) refl (nat_le low e.0 && nat_lt e.0 high) refl (λ later. removed_shorter es low high k later)
+removed_shorter {X} (e ∷ es) low high k is = by (nat_cmp k e.0) refl (nat_le low e.0 && nat_lt e.0 high) refl (λ later. removed_shorter es low high k later)
   where
     by : (o : Ordering) → nat_cmp k e.0 ≡ o → (b : Bool) → (nat_le low e.0 && nat_lt e.0 high) ≡ b
         → (first_between low high es ≡ Some k → length (remove_entry (is_at (nat_cmp k)) es) < length es)
@@ -76,14 +78,14 @@ removed_shorter (e ∷ es) low high k is = by (nat_cmp k e.0) refl (nat_le low e
     by Less at false other rest = let less = rest (rw other at is) in rw at (omega (arith, less))
     by Greater at false other rest = let less = rest (rw other at is) in rw at (omega (arith, less))
 
-pub none_between : (es : List (ℕ × ℕ)) (low high : ℕ) → first_between low high es ≡ None → without low high es ≡ es
+pub none_between : {X : Type 0} (es : List (ℕ × X)) (low high : ℕ) → first_between low high es ≡ None → without low high es ≡ es
 none_between [] low high is = refl
-none_between (e ∷ es) low high is = by (nat_le low e.0 && nat_lt e.0 high) refl (λ later. none_between es low high later)
+none_between {X} (e ∷ es) low high is = by (nat_le low e.0 && nat_lt e.0 high) refl (λ later. none_between es low high later)
   where
     by : (b : Bool) → (nat_le low e.0 && nat_lt e.0 high) ≡ b → (first_between low high es ≡ None → without low high es ≡ es)
         → without low high (e ∷ es) ≡ e ∷ es
     by true here rest = absurd (none-some e.0 (sym (rw here at is)))
-    by false other rest = rw other (ap (λ (xs : List (ℕ × ℕ)). e ∷ xs) (rest (rw other at is)))
+    by false other rest = rw other (ap (λ (xs : List (ℕ × X)). e ∷ xs) (rest (rw other at is)))
 
 -- ---- the first range that ends after a position loses what lies below it
 

@@ -1,5 +1,6 @@
 -- Sets of positions, and what is found among the ranges that keep one.
-use Rattle.std.proofs.Common.{◌≡◌, ℕ, zero, suc, ◌+◌, ◌-◌, ◌<◌, ◌≤◌, max, Bool, true, false, ◌&&◌, ◌||◌, nat_le, nat_lt, nat_eq, List, [], ◌∷◌, refl, sym, ap, ◌∙◌, subst, arith}
+use Rattle.std.proofs.Common.{◌≡◌, ℕ, zero, suc, ◌+◌, ◌-◌, ◌<◌, ◌≤◌, max, Bool, true, false, ◌&&◌, ◌||◌, nat_le, nat_lt, nat_eq, List, [], ◌∷◌, refl, sym, ap}
+use Rattle.std.proofs.Common.{◌∙◌, subst, arith}
 use Rattle.std.proofs.lemmas.Bool.Decides.{nat_tests}
 use Rattle.std.proofs.lemmas.Option.{none-some, same_Some}
 use Rattle.std.specs.Prelude.{Option, None, Some, option_map, find, filter}
@@ -25,11 +26,13 @@ contains-span from upto p = contains-from_list_nat (positions from upto) p ∙ (
 -- a test that each counted position passes, one fails, one passes, or none
 all_counted : (f : ℕ → Bool) (from count : ℕ) → ((p : ℕ) → from ≤ p → p < from + count → f p ≡ true) → list_all f (counted_from from count) ≡ true
 all_counted f from zero each = refl
-all_counted f from (suc count) each = rw (each from (omega arith) (omega arith)) (all_counted f (suc from) count (λ p low high. each p (omega arith) (omega arith)))
+all_counted f from (suc count) each =
+    rw (each from (omega arith) (omega arith)) (all_counted f (suc from) count (λ p low high. each p (omega arith) (omega arith)))
 
 none_counted : (f : ℕ → Bool) (from count : ℕ) → ((p : ℕ) → from ≤ p → p < from + count → f p ≡ false) → list_any f (counted_from from count) ≡ false
 none_counted f from zero each = refl
-none_counted f from (suc count) each = rw (each from (omega arith) (omega arith)) (none_counted f (suc from) count (λ p low high. each p (omega arith) (omega arith)))
+none_counted f from (suc count) each =
+    rw (each from (omega arith) (omega arith)) (none_counted f (suc from) count (λ p low high. each p (omega arith) (omega arith)))
 
 counted_all : (f : ℕ → Bool) (from count : ℕ) → list_all f (counted_from from count) ≡ true → (p : ℕ) → from ≤ p → p < from + count → f p ≡ true
 counted_all f from zero all p low high = absurd (omega arith)
@@ -47,7 +50,8 @@ counted_all f from (suc count) all p low high = by (f from) refl (nat_eq from p)
 
 counted_none : (f : ℕ → Bool) (from count : ℕ) → list_any f (counted_from from count) ≡ false → (p : ℕ) → from ≤ p → p < from + count → f p ≡ false
 counted_none f from zero none p low high = absurd (omega arith)
-counted_none f from (suc count) none p low high = by (f from) refl (nat_eq from p) refl (λ rest above. counted_none f (suc from) count rest p above (omega arith))
+counted_none f from (suc count) none p low high =
+    by (f from) refl (nat_eq from p) refl (λ rest above. counted_none f (suc from) count rest p above (omega arith))
   where
     by : (b : Bool) → f from ≡ b → (c : Bool) → nat_eq from p ≡ c
         → (list_any f (counted_from (suc from) count) ≡ false → suc from ≤ p → f p ≡ false) → f p ≡ false
@@ -268,15 +272,17 @@ between_test low high q = grind (arith, nat_tests)
 
 pub first_from_is : (es r : List (ℕ × ℕ)) (p : ℕ) → r ≡ entries_between nat_cmp (Included p) Unbounded es → slice_get r 0 ≡ first_from p es
 first_from_is es r p is =
-    ap (λ (xs : List (ℕ × ℕ)). slice_get xs 0) is ∙ (first_filtered (λ e. range_contains nat_cmp (Included p) Unbounded e.0) es ∙ (λ i. find (λ e. from_test p e.0 i) es))
+    ap (λ (xs : List (ℕ × ℕ)). slice_get xs 0) is
+    ∙ (first_filtered (λ e. range_contains nat_cmp (Included p) Unbounded e.0) es ∙ (λ i. find (λ e. from_test p e.0 i) es))
 
 pub first_after_is : (es r : List (ℕ × ℕ)) (p : ℕ) → r ≡ entries_between nat_cmp (Excluded p) Unbounded es → slice_get r 0 ≡ first_after p es
 first_after_is es r p is =
-    ap (λ (xs : List (ℕ × ℕ)). slice_get xs 0) is ∙ (first_filtered (λ e. range_contains nat_cmp (Excluded p) Unbounded e.0) es ∙ (λ i. find (λ e. after_test p e.0 i) es))
+    ap (λ (xs : List (ℕ × ℕ)). slice_get xs 0) is
+    ∙ (first_filtered (λ e. range_contains nat_cmp (Excluded p) Unbounded e.0) es ∙ (λ i. find (λ e. after_test p e.0 i) es))
 
-pub first_between_is : (es r : List (ℕ × ℕ)) (low high : ℕ) → r ≡ entries_between nat_cmp (Included low) (Excluded high) es
+pub first_between_is : {X : Type 0} (es r : List (ℕ × X)) (low high : ℕ) → r ≡ entries_between nat_cmp (Included low) (Excluded high) es
     → option_map (λ e. e.0) (slice_get r 0) ≡ first_between low high es
-first_between_is es r low high is =
-    ap (λ (xs : List (ℕ × ℕ)). option_map (λ (e : ℕ × ℕ). e.0) (slice_get xs 0)) is
-    ∙ (ap (λ (o : Option (ℕ × ℕ)). option_map (λ (e : ℕ × ℕ). e.0) o) (first_filtered (λ e. range_contains nat_cmp (Included low) (Excluded high) e.0) es)
-    ∙ (λ i. option_map (λ (e : ℕ × ℕ). e.0) (find (λ e. between_test low high e.0 i) es)))
+first_between_is {X} es r low high is =
+    ap (λ (xs : List (ℕ × X)). option_map (λ (e : ℕ × X). e.0) (slice_get xs 0)) is
+    ∙ (ap (λ (o : Option (ℕ × X)). option_map (λ (e : ℕ × X). e.0) o) (first_filtered (λ e. range_contains nat_cmp (Included low) (Excluded high) e.0) es)
+    ∙ (λ i. option_map (λ (e : ℕ × X). e.0) (find (λ e. between_test low high e.0 i) es)))

@@ -141,7 +141,8 @@ lower_whole e es from over late =
     rw (after, behind) refl
 
 out_kept : (end start from upto p : ℕ) (x : Bool) → end ≤ from
-    → ((nat_le start p && nat_lt p end) || (x && not (nat_le from p && nat_lt p upto))) ≡ (((nat_le start p && nat_lt p end) || x) && not (nat_le from p && nat_lt p upto))
+    → ((nat_le start p && nat_lt p end) || (x && not (nat_le from p && nat_lt p upto)))
+    ≡ (((nat_le start p && nat_lt p end) || x) && not (nat_le from p && nat_lt p upto))
 out_kept end start from upto p true under = grind (arith, nat_tests, under)
 out_kept end start from upto p false under = grind (arith, nat_tests, under)
 

@@ -30,12 +30,12 @@ first_from position entries = find (λ e. nat_le position e.0) entries
 abbrev pub first_after : ℕ → List (ℕ × ℕ) → Option (ℕ × ℕ)
 first_after position entries = find (λ e. nat_lt position e.0) entries
 
--- the first end of a range from `low` to before `high`
-abbrev pub first_between : (low high : ℕ) → List (ℕ × ℕ) → Option ℕ
+-- the first end from `low` to before `high`
+abbrev pub first_between : {X : Type 0} → (low high : ℕ) → List (ℕ × X) → Option ℕ
 first_between low high entries = option_map (λ e. e.0) (find (λ e. nat_le low e.0 && nat_lt e.0 high) entries)
 
--- the ranges without those that end from `low` to before `high`
-abbrev pub without : (low high : ℕ) → List (ℕ × ℕ) → List (ℕ × ℕ)
+-- what ends from `low` to before `high` is gone
+abbrev pub without : {X : Type 0} → (low high : ℕ) → List (ℕ × X) → List (ℕ × X)
 without low high entries = filter (λ e. not (nat_le low e.0 && nat_lt e.0 high)) entries
 
 -- where a range begins that is added from a position on, by the first range that ends there or after it
@@ -65,7 +65,8 @@ with_lower from entries = lower_by from entries (first_after from entries)
 -- the first range that ends after a position loses what lies below it
 abbrev pub begun_at : ℕ → List (ℕ × ℕ) → List (ℕ × ℕ)
 begun_at position [] = []
-begun_at position (e ∷ entries) = if nat_lt position e.0 then (e.0, max e.1 position) ∷ entries else e ∷ begun_at position entries
+begun_at position (e ∷ entries) =
+    if nat_lt position e.0 then (e.0, max e.1 position) ∷ entries else e ∷ begun_at position entries
 
 -- the ranges that end from `low` on lose what lies below `high`
 abbrev pub cleared : (low high : ℕ) → List (ℕ × ℕ) → List (ℕ × ℕ)

@@ -2,6 +2,7 @@
 //! nothing.
 
 ghost use Rattle.streams.specs.Forgetting.{ForgettingMakings, ForgettingStreams};
+ghost use Rattle.streams.specs.Pieces.{SegmentsEndOnce};
 ghost use Rattle.streams.specs.InOrder.{StartsArePrefixes, StreamsInOrder};
 
 /// No operation of an endpoint on its streams reads discarded bytes.
@@ -22,4 +23,9 @@ pub fn streams_in_order()
 /// If a list of bytes begins with others, those are a prefix of it.
 pub fn starts_are_prefixes()
     ensures { StartsArePrefixes }
+{}
+
+/// If each segment has a number of its own, no two outstanding positions are the last one of one segment.
+pub fn segments_end_once()
+    ensures { SegmentsEndOnce }
 {}

@@ -11,18 +11,22 @@
 //! - `send`: the bytes that sends accepted, until they are acknowledged
 //! - `transmission`, `transmissions`: when a position was first built, and whether it was retransmitted; `runs` keeps
 //!   the first by segments, `marks` the second by ranges
-//! - `laws`: nothing reads what was discarded, and reads return what the peer sent, in order
+//! - `ranges`: a set of positions; `flight`: what is known of each outstanding position, in pieces; both are kept by
+//!   their ends, so `by_end` drops some of either
+//! - `laws`: nothing reads what was discarded, reads return what the peer sent, in order, and a segment ends once
 //!
 //! Each buffer shows the whole list from position 0 on, with a fixed value in the places of what it discarded. The
-//! contracts use the definitions in specs/. Read `Cells` first, then `Received` and `Sent`, then `Transmissions`.
-//! `InOrder` states what follows, and `Forgetting` what may be discarded. The callers decide which bytes may be kept,
-//! read or sent.
+//! contracts use the definitions in specs/. Read `Cells` first, then `Received` and `Sent`, then `Transmissions`;
+//! `Ranges` and `Pieces` stand alone. `InOrder` states what follows, and `Forgetting` what may be discarded. The
+//! callers decide which bytes may be kept, read or sent.
 #![tactic(auto)]
 
+mod by_end;
 mod byte_places;
 mod byte_queue;
 mod cell;
 mod cell_queue;
+mod flight;
 mod laws;
 mod marks;
 mod outstanding;
@@ -35,8 +39,10 @@ mod transmission;
 mod transmissions;
 
 pub use cell::Cell;
+pub use flight::Flight;
 pub use laws::{
-    forgetting_streams, forgetting_transmissions, starts_are_prefixes, streams_in_order,
+    forgetting_streams, forgetting_transmissions, segments_end_once, starts_are_prefixes,
+    streams_in_order,
 };
 pub use outstanding::Outstanding;
 pub use ranges::Ranges;

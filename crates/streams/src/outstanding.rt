@@ -1,5 +1,5 @@
-//! What a sender knows of a position that it built and nobody acknowledged: what is in flight and what is lost follow from it
-//! (RFC 6675, 4; RFC 8985, 6.2).
+//! What a sender knows of a position that it built and nobody acknowledged: what is in flight and what is lost follow
+//! from it (RFC 6675, 4; RFC 8985, 6.2).
 
 /// The last making of one position, and what the receiver told of it.
 #[derive(Clone, Copy)]

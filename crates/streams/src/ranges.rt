@@ -1,15 +1,16 @@
 //! A set of positions, kept as ranges that neither meet nor touch.
 //!
-//! Each operation is logarithmic in the number of ranges, except for those that it takes out: an earlier call put each of
-//! them in. A range is found by the position after it, so its first position can rise without a new key, and nothing has
-//! to be allocated where the lowest positions are forgotten. `specs/Ranges` defines what sets of positions need beyond
-//! the words of finite sets; `specs/RangeEntries` says how one is kept.
+//! Each operation is logarithmic in the number of ranges, except for those that it takes out: an earlier call put each
+//! of them in. A range is found by the position after it, so its first position can rise without a new key, and nothing
+//! has to be allocated where the lowest positions are forgotten. `specs/Ranges` defines what sets of positions need
+//! beyond the words of finite sets; `specs/RangeEntries` says how one is kept.
 
-ghost use Rattle.std.specs.Prelude.{◌≡◌, ◌≤◌, OnOk, OnErr};
+ghost use Rattle.std.specs.Prelude.{◌≡◌, IfOk, OnOk, OnErr};
 ghost use Rattle.std.specs.FinSet as set;
 ghost use Rattle.streams.specs.Ranges.{covers, meets, span};
-ghost use Rattle.streams.specs.RangeEntries.{begun_at, first_after, first_between, first_from, joined_end, joined_start, with_lower, without};
+ghost use Rattle.streams.specs.RangeEntries.{begun_at, first_after, first_from, joined_end, joined_start, with_lower};
 
+use super::by_end::drop_between;
 use std::alloc::{AllocError, Global};
 use std::collections::BTreeMap;
 use std::marker::Model;
@@ -45,6 +46,15 @@ impl Ranges {
         Ranges {
             starts: BTreeMap::new(alloc),
         }
+    }
+
+    /// Holds the positions from `from` to before `upto`, and no others. The error means that memory ran out.
+    pub fn spanning(alloc: Global, from: u64, upto: u64) -> Result<Self, AllocError>
+        ensures { IfOk result (λ ranges. ranges ≡ span from upto) }
+    {
+        let mut ranges = Ranges::new(alloc);
+        ranges.add(from, upto)?;
+        Ok(ranges)
     }
 
     /// Adds the positions from `from` to before `upto`. The error means that memory ran out; nothing changes then.
@@ -167,27 +177,6 @@ fn joined_end(starts: &BTreeMap<u64, u64>, upto: u64) -> u64
     match ending_from(starts, upto) {
         Some((end, start)) if start <= upto => end,
         _ => upto,
-    }
-}
-
-// Drops the ranges that end from `low` to before `high`.
-fn drop_between(starts: &mut BTreeMap<u64, u64>, low: u64, high: u64)
-    requires { low ≤ high }
-    ensures { starts.new.entries ≡ without low high starts.old.entries }
-{
-    while let Some(end) = end_between(starts, low, high) {
-        starts.remove(&end);
-    }
-}
-
-// The first end of a range from `low` to before `high`.
-fn end_between(starts: &BTreeMap<u64, u64>, low: u64, high: u64) -> Option<u64>
-    requires { low ≤ high }
-    ensures { result ≡ first_between low high starts.now.entries }
-{
-    match starts.range(low..high).next() {
-        Some((end, _)) => Some(*end),
-        None => None,
     }
 }
 

@@ -8,7 +8,8 @@ returns-in_default c = begun_none c.args.starts.now.entries c.args.position (sym
 
 pub returns-in_default-get_mut : goal.returns-in_default-get_mut
 returns-in_default-get_mut c =
-    absurd (none-some c.in-Some.start (c.in_default-get_mut.ensures.value ∙ after_found c.args.starts.now.entries c.args.position (c.in-Some.end, c.in-Some.start) (sym c.in-Some.ensures)))
+    absurd (none-some c.in-Some.start
+    (c.in_default-get_mut.ensures.value ∙ after_found c.args.starts.now.entries c.args.position (c.in-Some.end, c.in-Some.start) (sym c.in-Some.ensures)))
 
 pub returns-in-Some-get_mut : goal.returns-in-Some-get_mut
 returns-in-Some-get_mut c =

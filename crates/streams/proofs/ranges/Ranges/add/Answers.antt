@@ -16,16 +16,17 @@ drop_between-requires c =
     let is = c.joined_end-end.ensures in
     omega (arith, some, end, is)
 
-entries : (c : goal.After-drop_between) → c.drop_between.new.starts.entries
+entries : (c : goal.After-drop_between) → c.drop_between.new.map.entries
     ≡ put c.args.from (joined_end c.args.upto c.self.inside.starts.entries) (joined_start c.args.from c.self.inside.starts.entries) c.self.inside.starts.entries
 entries c =
-    added_entries c.self.inside.starts.entries c.insert.new.self.entries c.drop_between.new.starts.entries c.args.from c.args.upto
+    added_entries c.self.inside.starts.entries c.insert.new.self.entries c.drop_between.new.map.entries c.args.from c.args.upto
     c.joined_end-end.result c.joined_start-start.result c.joined_end-end.ensures c.joined_start-start.ensures
     c.in_ok-insert.ensures.entries c.drop_between.ensures
 
 pub invariant_of-self-2 : goal.invariant_of-self-2
 invariant_of-self-2 c =
-    subst (AreApart 0) (sym (entries c)) (added_apart c.self.inside.starts.entries 0 c.args.from c.args.upto c.self.invariant (omega arith) c.if-upto-from.false)
+    subst (AreApart 0) (sym (entries c))
+    (added_apart c.self.inside.starts.entries 0 c.args.from c.args.upto c.self.invariant (omega arith) c.if-upto-from.false)
 
 pub returns-clause-ok : goal.returns-clause-ok
 returns-clause-ok c =

@@ -13,14 +13,16 @@ pub returns-then-start-from : goal.returns-then-start-from
 returns-then-start-from c =
     let low = c.if-start-from.true in
     let begun : nat_le c.in-Some.start c.args.from ≡ true = grind (arith, nat_tests, low) in
-    let is = rw begun at (covers_is c.self.inside.starts.entries c.args.from c.args.upto (c.in-Some.end, c.in-Some.start) c.self.invariant (sym c.in-Some.ensures) c.if-upto-from.false) in
+    let is = rw begun at (covers_is c.self.inside.starts.entries c.args.from c.args.upto (c.in-Some.end, c.in-Some.start) c.self.invariant
+    (sym c.in-Some.ensures) c.if-upto-from.false) in
     is ∙ ap (λ (s : FinSet nat_cmp). covers s c.args.from c.args.upto) c.self.view_is
 
 pub returns-else-start-from : goal.returns-else-start-from
 returns-else-start-from c =
     let high = c.if-start-from.false in
     let late : nat_le c.in-Some.start c.args.from ≡ false = grind (arith, nat_tests, high) in
-    let is = rw late at (covers_is c.self.inside.starts.entries c.args.from c.args.upto (c.in-Some.end, c.in-Some.start) c.self.invariant (sym c.in-Some.ensures) c.if-upto-from.false) in
+    let is = rw late at (covers_is c.self.inside.starts.entries c.args.from c.args.upto (c.in-Some.end, c.in-Some.start) c.self.invariant
+    (sym c.in-Some.ensures) c.if-upto-from.false) in
     late ∙ (is ∙ ap (λ (s : FinSet nat_cmp). covers s c.args.from c.args.upto) c.self.view_is)
 
 pub returns-in-None : goal.returns-in-None

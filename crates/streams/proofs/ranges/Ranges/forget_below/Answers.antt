@@ -8,7 +8,7 @@ use Rattle.streams.proofs.ranges.Ranges.forget_below.Goals as goal
 
 entries : (c : goal.After-begin_at) → c.begin_at.new.starts.entries ≡ cleared 0 c.args.position c.self.inside.starts.entries
 entries c =
-    cleared_entries c.self.inside.starts.entries c.drop_between.new.starts.entries c.remove.new.self.entries c.begin_at.new.starts.entries
+    cleared_entries c.self.inside.starts.entries c.drop_between.new.map.entries c.remove.new.self.entries c.begin_at.new.starts.entries
     0 c.args.position 0 refl c.drop_between.ensures c.remove.ensures.entries c.begin_at.ensures
 
 pub invariant_of-self : goal.invariant_of-self

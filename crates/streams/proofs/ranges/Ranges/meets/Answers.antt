@@ -8,7 +8,8 @@ use Rattle.streams.proofs.ranges.Ranges.meets.Goals as goal
 
 pub returns-then-from-upto : goal.returns-then-from-upto
 returns-then-from-upto c =
-    meets_is c.self.inside.starts.entries c.args.from c.args.upto (c.in-Some.field-0-0, c.in-Some.start) c.self.invariant (sym c.in-Some.ensures) c.if-from-upto.true
+    meets_is c.self.inside.starts.entries c.args.from c.args.upto (c.in-Some.field-0-0, c.in-Some.start) c.self.invariant
+    (sym c.in-Some.ensures) c.if-from-upto.true
     ∙ ap (λ (s : FinSet nat_cmp). meets s c.args.from c.args.upto) c.self.view_is
 
 pub returns-else-from-upto : goal.returns-else-from-upto
