@@ -145,12 +145,14 @@ sending_shows h moment v (At g (Sends line k wire)) host n m e there =
     let same = some_pair_parts g host k n e in
     let at : lookup (nat_eq k) (pick v.hosts g).made ≡ Some m =
     subst (λ (x : Host). lookup (nat_eq k) (pick v.hosts x).made ≡ Some m) (sym same.0)
-    (subst (λ (q : ℕ). lookup (nat_eq q) (pick v.hosts host).made ≡ Some m) (sym same.1) there) in
-    (wire, ap (λ (o : Option (Made Emission)). (on o unseen (λ (m : Made Emission). record unseen {
-      touched = at_sender g (pick v.hosts g).body wire m.emission;
-      built_change = built_change.Sends k;
-    })).touched) at
-    ∙ ap (λ (x : Host). at_sender x (pick v.hosts x).body wire m.emission) same.0)
+    (subst (λ (q : ℕ). lookup (nat_eq q) (pick v.hosts host).made ≡ Some m) (sym same.1) there) in (
+      wire,
+      ap (λ (o : Option (Made Emission)). (on o unseen (λ (m : Made Emission). record unseen {
+        touched = at_sender g (pick v.hosts g).body wire m.emission;
+        built_change = built_change.Sends k;
+      })).touched) at
+          ∙ ap (λ (x : Host). at_sender x (pick v.hosts x).body wire m.emission) same.0,
+    )
 sending_shows h moment v step host n m e there = absurd (none-some (host, n) e)
 
 -- the sender of a built segment, if it is there

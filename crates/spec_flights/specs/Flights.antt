@@ -92,7 +92,7 @@ flight_after change event before after f = record {
   sides = sides_after change f.sides;
   recovery = recovery_after event after f.recovery;
   marks = marks_in change event before after (sides_after change f.sides) (recovery_after event after f.recovery)
-    f.marks;
+      f.marks;
 }
 
 abbrev pub flights_touched : (after : View) → SynChange → Flights → TouchedEndpoint → Flights

@@ -54,4 +54,4 @@ is_bare h = not (is_some h.slack) && not (says_sender h.version)
 abbrev pub IsPlain : Header → Option (Step tcp_shape) → Type 0
 IsPlain h asked = (says_sender h.version ≡ false)
     × ((h.slack ≡ None)
-      ⊎ ((moment : ℕ) (w : World tcp_shape) → option_map_or (observe h moment w) asked unseen ≡ unseen))
+    ⊎ ((moment : ℕ) (w : World tcp_shape) → option_map_or (observe h moment w) asked unseen ≡ unseen))

@@ -268,7 +268,10 @@ fn judge_line(
     };
     match &taken {
         TakenLine::Sent {
-            host, made, wire, ..
+            host,
+            made,
+            wire,
+            ..
         } => {
             let seen = observe_sending(world, *host, *made, wire);
             watch_step(world, flights, duties, moment, taken, &seen, None)

@@ -24,5 +24,6 @@ returns-clause-made c from h low some =
     (c.in_ok-cut-2.ensures.ok ∙ ap (λ (n : ℕ). cut n c.cut.new.pieces.entries) at) g in
     let new = subst (IsRebuilt from c.args.end c.args.position c.args.upto c.args.number c.args.moment c.args.pieces.now.entries)
     (sym (j
-    ∙ ap (λ (n : ℕ). joined_if c.args.position n (built_again c.args.number c.args.moment (nat_le c.args.upto c.args.end)) c.grow.new.pieces.entries) at)) built in
+    ∙ ap (λ (n : ℕ). joined_if c.args.position n (built_again c.args.number c.args.moment (nat_le c.args.upto c.args.end))
+    c.grow.new.pieces.entries) at)) built in
     (new.view, new.adjoin)
