@@ -1,7 +1,7 @@
 -- Sets of positions, and the lists of their positions.
 use Rattle.std.proofs.Common.{◌≡◌, ℕ, Bool, true, false, List, [], ◌∷◌, refl, sym, ap, ◌∙◌, rules}
 use Rattle.std.specs.Prelude.{◌||◌}
-use Rattle.std.specs.FinSet.{FinSet, contains, contains-empty, contains-from_list, contains-items, empty, from_list, items, nat_cmp-IsAntisymmetric, same_set}
+use Rattle.std.specs.FinSet.{FinSet, contains-empty, contains-from_list, contains-items, empty, from_list, items, nat_cmp-IsAntisymmetric, same_set}
 use Rattle.std.specs.Cmp.{nat_cmp_total}
 use Rattle.std.specs.List.{list_any}
 use Rattle.std.specs.Ordering.{eq_by_cmp, nat_cmp}
