@@ -73,8 +73,15 @@ pub(crate) fn old_data(
             )
         }
         Reason::Again { .. } | Reason::Beyond { .. } | Reason::Late(_) | Reason::Other => {
-            write!(out, "; sent up to {sent}, may be retransmitted up to ")?;
-            writeln!(out, "{recover} (raised by an expiry or fast recovery)")?;
+            if scene.header().version.says_sender() {
+                writeln!(
+                    out,
+                    "; sent up to {sent}; no expiry and no fast recovery permits all of it to be sent again"
+                )?;
+            } else {
+                write!(out, "; sent up to {sent}, may be retransmitted up to ")?;
+                writeln!(out, "{recover} (raised by an expiry or fast recovery)")?;
+            }
             timer_due(out, endpoint, scene.moment())?;
             say_unrestarted(out, scene, endpoint.timers.rto)
         }
