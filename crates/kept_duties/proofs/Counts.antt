@@ -45,7 +45,7 @@ use Rattle.spec_tcp_laws.proofs.Runs.{later_step}
 use Rattle.spec_cases.specs.Cases.{Dutiful, Known, first_known}
 use Rattle.spec_duties.specs.Excess.{answers_after, is_arrival, is_excess, is_listen, is_mere_ack, one_more}
 use Rattle.spec_duties.specs.Owed.{once_closed, owed_after, owed_open}
-use Rattle.spec_duties.specs.Observations.{at_place, at_sender, sending_of, observe, unseen, view_in}
+use Rattle.spec_duties.specs.Observations.{at_place, at_sender, sending_of, observe, syn_sent, unseen, view_in}
 use Rattle.spec_duties.specs.Views.{unborn, view_of}
 use Rattle.spec_duties.specs.Watching.{built_by, builds_mere_ack, counts_now, owed_by}
 use Rattle.spec_duties.specs.declared.events.Event.{Event}
@@ -150,6 +150,7 @@ sending_shows h moment v (At g (Sends line k wire)) host n m e there =
       ap (λ (o : Option (Made Emission)). (on o unseen (λ (m : Made Emission). record unseen {
         touched = at_sender g (pick v.hosts g).body wire m.emission;
         built_change = built_change.Sends k;
+        syn_change = syn_sent h.version m.emission wire.bytes;
       })).touched) at
           ∙ ap (λ (x : Host). at_sender x (pick v.hosts x).body wire m.emission) same.0,
     )

@@ -182,13 +182,13 @@ for_no_other_host : event_for (record { host = One; number = 0 }) (Some touches_
 for_no_other_host = refl
 
 -- what ends a duty
-ack_answers : Answers (happening.Sends (record { flags = ack.flags; pos = 4; length = 0 })) sent_four sent_four
+ack_answers : Answers (happening.Sends (record { flags = ack.flags; pos = 4; length = 0; before_text = false })) sent_four sent_four
 ack_answers = refl
 
-first_position_again : SendsOldest (happening.Sends (record { flags = ack.flags; pos = 1; length = 1 })) sent_four sent_four
+first_position_again : SendsOldest (happening.Sends (record { flags = ack.flags; pos = 1; length = 1; before_text = false })) sent_four sent_four
 first_position_again = inl (omega arith, omega arith)
 
-later_position_is_not : SendsOldest (happening.Sends (record { flags = ack.flags; pos = 2; length = 1 })) sent_four sent_four → ⊥
+later_position_is_not : SendsOldest (happening.Sends (record { flags = ack.flags; pos = 2; length = 1; before_text = false })) sent_four sent_four → ⊥
 later_position_is_not (inl held) = omega (arith, held.0)
 later_position_is_not (inr (inl shut)) = cc shut
 later_position_is_not (inr (inr more)) = omega (arith, more)
@@ -196,7 +196,7 @@ later_position_is_not (inr (inr more)) = omega (arith, more)
 acknowledged_instead : SendsOldest happening.Recovers sent_four (record sent_four { snd_una = 2 })
 acknowledged_instead = omega arith
 
-reset_is_sent : SendsReset (happening.Sends (record { flags = record ack.flags { rst = true }; pos = 4; length = 0 })) sent_four sent_four
+reset_is_sent : SendsReset (happening.Sends (record { flags = record ack.flags { rst = true }; pos = 4; length = 0; before_text = false })) sent_four sent_four
 reset_is_sent = refl
 
 -- an endpoint with three bytes to send and nothing outstanding

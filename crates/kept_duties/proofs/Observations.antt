@@ -29,7 +29,7 @@ use Rattle.spec_tcp.specs.declared.endpoint.Emission.{Emission}
 use Rattle.spec_tcp.specs.declared.endpoint.SocketTarget.{SocketTarget}
 use Rattle.spec_tcp.specs.declared.endpoint.SocketTarget.TheVariants.{ListenerAt, EndpointAt}
 use Rattle.spec_duties.specs.Observations.{unseen, observe, observe_call, observe_effect, observe_accept, observe_close, observe_other, is_done}
-use Rattle.spec_duties.specs.Observations.{at_sender}
+use Rattle.spec_duties.specs.Observations.{at_sender, syn_sent}
 use Rattle.spec_duties.specs.declared.observations.InboxChange.{InboxChange}
 use Rattle.spec_duties.specs.declared.observations.InboxChange.TheVariants as inbox_change
 use Rattle.spec_duties.specs.declared.observations.BuiltChange.{BuiltChange}
@@ -213,6 +213,7 @@ built_change_sends h moment w (At g (Sends line n wire)) host number may e =
       ap (λ o. (on o unseen (λ (m : Made Emission). record unseen {
         touched = at_sender g (pick w.hosts g).body wire m.emission;
         built_change = built_change.Sends n;
+        syn_change = syn_sent h.version m.emission wire.bytes;
       })).built_change) p.1 ∙ ap built_change.Sends same.1,
       subst (λ (x : Host). Unsent w x number) same.0
           (subst (λ (x : ℕ). Unsent w g x) same.1 (record { made = p.0; there = p.1; unsent = (none_all (just rules.NotMade p.0.sent) both.1).0 })),
