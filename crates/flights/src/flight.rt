@@ -70,11 +70,12 @@ impl Flight {
     fn may_begin(&self, v: &View) -> bool
         ensures { result ≡ may_begin v.now self.now }
     {
-        if are_selective(self.sides) {
-            !is_recovering(v, self.recovery)
+        let is_within = if are_selective(self.sides) {
+            is_recovering(v, self.recovery)
         } else {
-            2 < v.dup && !v.fast
-        }
+            v.fast
+        };
+        2 < v.dup && !is_within
     }
 
     /// The rule that a step breaks. None: it breaks none.

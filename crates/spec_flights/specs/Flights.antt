@@ -58,11 +58,10 @@ may_go_again v m f =
 abbrev pub goes_again : View → SegmentPlan → Bool
 goes_again v m = nat_lt 0 (making_length m) && nat_lt m.pos v.snd_max && not (is_fin_alone m v)
 
--- fast recovery begins only after three duplicate acknowledgments, and not within it (RFC 5681, 3.2, step 2); an
--- endpoint that acknowledges selectively may begin it at any time, if it isn't recovering (RFC 6675, 5; RFC 8985, 6.2)
+-- fast recovery begins only after three duplicate acknowledgments, and not within it (RFC 5681, 3.2, step 2); where
+-- both SYNs permit SACK, not while it recovers (RFC 6675, 5)
 abbrev pub may_begin : View → Flight → Bool
-may_begin v f =
-    if are_selective f.sides then not (is_recovering v f.recovery) else nat_lt 2 v.dup && not v.fast
+may_begin v f = nat_lt 2 v.dup && not (if are_selective f.sides then is_recovering v f.recovery else v.fast)
 
 -- the rule that a step breaks
 abbrev pub broken_at : Event → View → Flight → Option Rule

@@ -119,8 +119,7 @@ impl Progress {
         Ok(self.expire_any(key)? || self.try_recovery(key)?)
     }
 
-    // Whether fast recovery is tried before an expiry. From version 6 on, an endpoint that acknowledges selectively may
-    // begin it at any time, but it's likely only after a duplicate acknowledgment.
+    // Whether fast recovery is tried before an expiry: from version 6 on, only after a duplicate acknowledgment.
     fn recovers_first(&self, key: EndpointKey) -> bool {
         let endpoint = self.endpoint(key);
         !self.world().header().version.says_sender()
