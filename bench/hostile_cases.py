@@ -14,8 +14,12 @@ all its steps and the verdict is `yes`. The only exception is the kind with line
 The texts have format version 2: both hosts send a shift of 14 and an MSS of 65495, so that a million bytes may be
 outstanding. The kinds whose names begin with `watched` have format version 5, with a slack: duties are judged, also at
 the end. The slack is so long that none is late. Those whose names begin with `stricter` have version 6.
+
+So do those that begin with `selective` or `plain`, whose subject is data in flight: there both SYNs permit SACK, or
+neither does. Most are half cases, in which host 0 sends and its peer chooses every acknowledgment.
 """
 
+import math
 import random
 import struct
 import sys
@@ -26,6 +30,8 @@ HEADER = ["trace 2", "skew 0", "msl 3600000000", "grain 1000", "minrto 1000000",
 FIRST_EVENT_LINE = 1 + len(HEADER)
 WATCHED_HEADER = ["trace 5", *HEADER[1:], "hosts 2", "congestion full", "slack 1000000000000"]
 STRICT_HEADER = ["trace 6", *WATCHED_HEADER[1:-2], "congestion recovery", WATCHED_HEADER[-1], "sender reno", "growth 1"]
+# A segment that is never sent isn't late after any number of timeouts, because the slack is the longest.
+FLIGHT_HEADER = ["trace 6", *HEADER[1:], "hosts 1", "congestion recovery", f"slack {10**18}", *STRICT_HEADER[-2:]]
 MSS = 65_495
 SHIFT = 14
 WINDOW = 65_535
@@ -62,18 +68,29 @@ def find_kind(*sizes):
 
 
 class Connection:
-    """The ports of both ends, by host, and their initial send sequence numbers."""
+    """The ports of both ends, by host, their initial send sequence numbers, whether SYNs permit SACK, and their MSS."""
 
-    def __init__(self, ports=(4000, 80), firsts=(4_294_967_294, 100)):
+    def __init__(self, ports=(4000, 80), firsts=(4_294_967_294, 100), selective=False, mss=MSS):
         self.ports = ports
         self.firsts = firsts
+        self.selective = selective
+        self.mss = mss
 
-    def text(self, host, position, flags, acked, payload=b"", window=WINDOW):
+    def options(self, host, flags, blocks):
+        """The options of a segment in hex. Its blocks are pairs of positions of the other host."""
+        if "S" in flags:
+            return f"0204{self.mss:04x}01{0x0303:04x}{SHIFT:02x}" + ("01010402" if self.selective else "")
+        if not blocks:
+            return ""
+        numbers = [(self.firsts[1 - host] + position) % 2**32 for block in blocks for position in block]
+        return f"010105{2 + 4 * len(numbers):02x}" + "".join(f"{number:08x}" for number in numbers)
+
+    def text(self, host, position, flags, acked, payload=b"", window=WINDOW, blocks=()):
         """A segment in hex."""
         other = 1 - host
         number = (self.firsts[host] + position) % 2**32
         acknowledgment = 0 if acked is None else (self.firsts[other] + acked) % 2**32
-        options = f"0204{MSS:04x}01{0x0303:04x}{SHIFT:02x}" if "S" in flags else ""
+        options = self.options(host, flags, blocks)
         offset = 5 + len(options) // 8
         return (
             f"{self.ports[host]:04x}{self.ports[other]:04x}{number:08x}{acknowledgment:08x}"
@@ -145,9 +162,9 @@ class Case:
         """Delivers a copy to the host. Returns the number of its line."""
         return self.event(WIRES[host], f"I {host} {text}", f" {out}")
 
-    def carry(self, connection, host, position, flags, acked, payload=b"", window=WINDOW):
+    def carry(self, connection, host, position, flags, acked, payload=b"", window=WINDOW, blocks=()):
         """Makes, sends and delivers a segment. Returns the number of the line of its arrival."""
-        text = connection.text(host, position, flags, acked, payload, window)
+        text = connection.text(host, position, flags, acked, payload, window, blocks)
         made = self.make(connection, host, position, len(payload), flags, window)
         return self.comes(1 - host, text, self.goes(host, text, made))
 
@@ -944,6 +961,505 @@ def stricter_threads_that_wait_at_listeners(count):
 def watched_children_half_open(count):
     """Each counts for its listener until that is closed."""
     return half_open(Case(header=WATCHED_HEADER), count)
+
+
+class Sender:
+    """A half case: host 0 opened a connection and sends, and its peer's window is as wide as it can be."""
+
+    def __init__(self, count, selective=True, mss=MSS):
+        """The endpoint accepts this many bytes."""
+        self.case = Case(header=FLIGHT_HEADER)
+        self.connection = Connection(selective=selective, mss=mss)
+        # SND.UNA and SND.MAX, and the positions that were built more than once.
+        self.una, self.end, self.again = 0, 1, set()
+        send_syn(self.case, self.connection)
+        self.socket = self.case.socket
+        self.process(0, "AS", 1)
+        self.case.make(self.connection, 0, 1, 0, "A")
+        # The windows of a handshake are not scaled (RFC 7323, 2.2).
+        self.hear(1)
+        self.accept(count)
+
+    def accept(self, count):
+        """The endpoint accepts this many bytes more."""
+        send_all(self.case, self.socket, count)
+
+    def process(self, position, flags, acked, payload=b"", window=WINDOW, blocks=()):
+        """The endpoint receives a segment and processes it."""
+        text = self.connection.text(1, position, flags, acked, payload, window, blocks)
+        line = self.case.event(WIRES[0], f"I 0 {text}")
+        sample = int(acked > self.una and acked - 1 not in self.again)
+        self.case.take(0, line, INITIAL_WINDOW, keep=int(len(payload) > 0), sample=sample)
+        self.una = max(self.una, acked)
+
+    def hear(self, acked=None, blocks=(), window=WINDOW):
+        """Its peer acknowledges all before a position, by default nothing new, and reports blocks."""
+        self.process(1, "A", self.una if acked is None else acked, window=window, blocks=blocks)
+
+    def tell(self, positions, acked=None):
+        """Reports up to four positions, each as a block."""
+        self.hear(acked, [(position, position + 1) for position in positions])
+
+    def build(self, size=1):
+        """Builds a segment of bytes that weren't sent yet. Returns its first position."""
+        self.case.make(self.connection, 0, self.end, size, "A")
+        self.end += size
+        return self.end - size
+
+    def build_singly(self, count):
+        for _ in range(count):
+            self.build()
+
+    def build_again(self, position, size=1):
+        self.case.make_again(self.connection, 0, position, size, "A")
+        self.again.update(range(position, position + size))
+
+    def expire(self, timer):
+        self.case.moment += LAST_TIMEOUT
+        self.case.expire(self.connection, 0, timer, f" {MSS} {2 * MSS}" if timer == "rto" else "")
+
+    def recover(self):
+        """Fast recovery begins."""
+        ports = self.connection.ports
+        self.case.step(f"F 0 {ports[0]} {ports[1]} {MSS} {MSS}")
+
+    def recover_by_duplicates(self):
+        for _ in range(3):
+            self.hear()
+        self.recover()
+
+    def tell_every_second(self, count):
+        """Builds this many bytes singly, and every second is told. Returns those, and the others before the last."""
+        self.build_singly(count)
+        told = range(self.end - count + 1, self.end, 2)
+        for begin in range(0, len(told), 4):
+            self.tell(told[begin:begin + 4])
+        return told, range(self.end - count, told[-1], 2)
+
+
+def in_fours(positions):
+    """All positions in any order, four at a time."""
+    positions = list(positions)
+    random.Random(1).shuffle(positions)
+    return [positions[begin:begin + 4] for begin in range(0, len(positions), 4)]
+
+
+@kind(50_000, 100_000, 200_000)
+def selective_holes_that_are_sent_again(count):
+    """Four bytes are told at a time, and another is sent behind each acknowledgment."""
+    sender = Sender(2 * count)
+    sender.build_singly(count)
+    for positions in in_fours(range(2, count, 2)):
+        sender.tell(positions)
+        sender.build()
+    sender.recover()
+    for position in range(1, count - 1, 2):
+        sender.build_again(position)
+    sender.hear(sender.end)
+    return sender.case
+
+
+@kind(25_000, 50_000, 100_000)
+def selective_holes_that_are_told_at_last(count):
+    """They are sent again and told in any order; their number falls, and each is acknowledged only at the end."""
+    sender = Sender(count)
+    _, holes = sender.tell_every_second(count)
+    sender.recover()
+    for positions in in_fours(holes[1:]):
+        for position in positions:
+            sender.build_again(position)
+        sender.tell(positions)
+    sender.build_again(holes[0])
+    sender.hear(sender.end)
+    return sender.case
+
+
+@kind(25_000, 50_000, 100_000)
+def selective_holes_that_are_lost_again_and_again(count):
+    """Each time that a hole was sent again, a new byte was sent and told, so all holes are lost again."""
+    sender = Sender(2 * count)
+    _, holes = sender.tell_every_second(count)
+    sender.recover()
+    for index in range(count):
+        sender.build_again(holes[(index * 7) % len(holes)])
+        sender.tell([sender.build()])
+    return sender.case
+
+
+@kind(15_000, 30_000, 60_000)
+def selective_segments_told_in_parts(count):
+    """Long segments, of which each acknowledgment tells four bytes; another byte is sent behind it."""
+    size = 8 * count
+    sender = Sender(size + count)
+    for begin in range(0, size, MSS):
+        sender.build(min(MSS, size - begin))
+    for positions in in_fours(range(2, size, 2)):
+        sender.tell(positions)
+        sender.build()
+    sender.hear(sender.end)
+    return sender.case
+
+
+@kind(15_000, 30_000, 60_000)
+def selective_parts_acknowledged_one_by_one(count):
+    """The same, acknowledged part by part."""
+    size = 8 * count
+    sender = Sender(size)
+    for begin in range(0, size, MSS):
+        sender.build(min(MSS, size - begin))
+    for positions in in_fours(range(2, size, 2)):
+        sender.tell(positions)
+    for position in range(3, size, 8):
+        sender.hear(position, [(size - 1, size)])
+    return sender.case
+
+
+@kind(25_000, 50_000, 100_000)
+def selective_segments_sent_again_over_parts(count):
+    """A thousand acknowledgments tell 4,000 bytes of a segment; then it is sent again whole, after a timeout."""
+    sender = Sender(8_000)
+    sender.build(8_000)
+    parts = in_fours(range(2, 8_000, 2))
+    for begin in range(0, count, 1_000):
+        for positions in parts[:count - begin]:
+            sender.tell(positions)
+        sender.expire("rto")
+        sender.build_again(1, 8_000)
+    return sender.case
+
+
+@kind(25_000, 50_000, 100_000)
+def selective_three_told_again_and_again(count):
+    """The last byte is told. Again and again two others are, so all before it is lost, and then acknowledged."""
+    sender = Sender(2 * count)
+    sender.build_singly(count)
+    last = (count, count + 1)
+    for first in range(1, count - 3, 3):
+        sender.hear(blocks=[(first + 1, first + 2), (first + 2, first + 3), last])
+        sender.build()
+        sender.hear(first + 3, [last])
+        sender.build()
+    return sender.case
+
+
+@kind(25_000, 50_000, 100_000)
+def selective_window_that_slides(count):
+    """Each acknowledgment has a byte more, and a block up to the last; another byte is sent behind it."""
+    sender = Sender(2 * count)
+    sender.build_singly(count)
+    for position in range(2, 2 + count):
+        sender.hear(position, [(position + 1, sender.end)] if position + 1 < sender.end else ())
+        sender.build()
+    return sender.case
+
+
+@kind(50_000, 100_000, 200_000)
+def selective_blocks_that_say_nothing_new(count):
+    """Every second byte was told. Again and again, four of them are told again in any order."""
+    sender = Sender(count)
+    told, _ = sender.tell_every_second(count)
+    for index in range(count):
+        sender.tell([told[(index * 4_099 + place * 7_919) % len(told)] for place in range(4)])
+    return sender.case
+
+
+@kind(50_000, 100_000, 200_000)
+def selective_wide_blocks_that_say_nothing_new(count):
+    """All but the first byte was told, singly. Again and again, it's all told in four blocks that overlap."""
+    sender = Sender(count)
+    sender.build_singly(count)
+    for positions in in_fours(range(2, count + 1)):
+        sender.tell(positions)
+    for index in range(count):
+        sender.hear(blocks=[(2 + index % (count // 2) * (place > 0), count + 1) for place in range(4)])
+    return sender.case
+
+
+@kind(10_000, 20_000, 40_000)
+def selective_timeouts_after_which_all_goes_again(count):
+    """Ten times, in any order."""
+    sender = Sender(count)
+    sender.build_singly(count)
+    positions = list(range(1, count + 1))
+    for seed in range(10):
+        sender.expire("rto")
+        random.Random(seed).shuffle(positions)
+        for position in positions:
+            sender.build_again(position)
+    return sender.case
+
+
+@kind(25_000, 50_000, 100_000)
+def selective_timeouts_over_what_is_told(count):
+    """All but the first byte was told. After each timeout, that one goes again, and the rest is told again."""
+    sender = Sender(count)
+    sender.build_singly(count)
+    for _ in range(count):
+        sender.expire("rto")
+        sender.build_again(1)
+        sender.hear(blocks=[(2, count + 1)])
+    return sender.case
+
+
+@kind(25_000, 50_000, 100_000)
+def selective_timeouts_over_holes(count):
+    """Every second byte was told. After each timeout, one of the others goes again, and four are told again."""
+    sender = Sender(count)
+    told, holes = sender.tell_every_second(count)
+    for index in range(count):
+        sender.expire("rto")
+        sender.build_again(holes[index * 7 % len(holes)])
+        sender.tell([told[(index * 4_099 + place * 7_919) % len(told)] for place in range(4)])
+    return sender.case
+
+
+@kind(25_000, 50_000, 100_000)
+def selective_timeouts_over_marks(count):
+    """After a timeout, every second byte goes again; after the next one, the others. Both, ten times."""
+    length = max(1, count // 5)
+    sender = Sender(length)
+    sender.build_singly(length)
+    for time in range(20):
+        sender.expire("rto")
+        for position in range(1 + time % 2, 1 + length, 2):
+            sender.build_again(position)
+    return sender.case
+
+
+@kind(25_000, 50_000, 100_000)
+def selective_probes_over_holes(count):
+    """Every second byte was told, and the window is closed. After each probe, one of the others goes again."""
+    sender = Sender(count)
+    _, holes = sender.tell_every_second(count)
+    sender.hear(window=0)
+    for index in range(count):
+        sender.expire("persist")
+        sender.build_again(holes[index * 7 % len(holes)])
+    return sender.case
+
+
+@kind(25_000, 50_000, 100_000)
+def selective_windows_that_open_over_holes(count):
+    """Every second byte was told. Each time that the window opened, one of the others goes again."""
+    sender = Sender(count)
+    told, holes = sender.tell_every_second(count)
+    for index in range(count):
+        sender.hear(window=0)
+        sender.hear(window=1 + index % WINDOW, blocks=[(told[index % len(told)], told[index % len(told)] + 1)])
+        sender.build_again(holes[index * 7 % len(holes)])
+    return sender.case
+
+
+def recoveries_without_a_loss(count, place):
+    """Again and again, all that was accepted is sent in segments of one byte, and three duplicates come. Then one byte
+    goes again, and all is acknowledged. There are as many recoveries as bytes in each of them."""
+    sender = Sender(1, mss=1)
+    sender.build()
+    sender.hear(2)
+    size = math.isqrt(count)
+    for _ in range(size):
+        sender.accept(size)
+        sender.build_singly(size)
+        sender.recover_by_duplicates()
+        sender.build_again(sender.una + place % size)
+        sender.hear(sender.end)
+    return sender.case
+
+
+@kind(50_000, 100_000, 200_000)
+def selective_recoveries_of_the_first_byte(count):
+    return recoveries_without_a_loss(count, 0)
+
+
+@kind(50_000, 100_000, 200_000)
+def selective_recoveries_with_a_rescue(count):
+    """The last byte goes again, once in each recovery."""
+    return recoveries_without_a_loss(count, -1)
+
+
+@kind(25_000, 50_000, 100_000)
+def selective_recoveries_by_short_flights(count):
+    """Each of four bytes, of which three are told."""
+    sender = Sender(4 * count)
+    for _ in range(count):
+        sender.build_singly(4)
+        first = sender.una
+        sender.hear(blocks=[(first + 1, sender.end)])
+        sender.recover()
+        sender.build_again(first)
+        sender.hear(sender.end)
+    return sender.case
+
+
+@kind(25_000, 50_000, 100_000)
+def selective_bytes_that_are_late_by_time(count):
+    """Each was built later than the one before. The last two are told, and with each duplicate, one more is late."""
+    sender = Sender(2 * count)
+    for _ in range(count):
+        sender.build()
+        sender.case.moment += 1
+    sender.tell([count - 1, count])
+    for _ in range(count):
+        sender.hear()
+    sender.recover()
+    for position in range(1, count - 1):
+        sender.build_again(position)
+    return sender.case
+
+
+@kind(50_000, 100_000, 200_000)
+def plain_partial_acknowledgments(count):
+    """After three duplicates, each acknowledgment has a byte more, and the next goes again."""
+    sender = Sender(count, selective=False)
+    sender.build_singly(count)
+    sender.recover_by_duplicates()
+    for position in range(1, count):
+        sender.build_again(position)
+        sender.hear(position + 1)
+    return sender.case
+
+
+@kind(50_000, 100_000, 200_000)
+def plain_segments_never_acknowledged(count):
+    """Duplicates come for all of them. After a timeout, they go again from the last to the first."""
+    sender = Sender(count, selective=False)
+    sender.build_singly(count)
+    for _ in range(count):
+        sender.hear()
+    sender.expire("rto")
+    for position in range(count, 0, -1):
+        sender.build_again(position)
+    return sender.case
+
+
+@kind(50_000, 100_000, 200_000)
+def plain_windows_that_open(count):
+    """All is outstanding. Each time that the window opened, one byte goes again, and all but the first may."""
+    sender = Sender(count, selective=False)
+    sender.build_singly(count)
+    for position in range(count, 0, -1):
+        sender.hear(window=0)
+        sender.hear(window=1)
+        sender.build_again(position)
+    return sender.case
+
+
+@kind(50_000, 100_000, 200_000)
+def plain_segments_acknowledged_by_bytes(count):
+    sender = Sender(count, selective=False)
+    for begin in range(0, count, MSS):
+        sender.build(min(MSS, count - begin))
+    for position in range(1, 1 + count):
+        sender.hear(position + 1)
+    return sender.case
+
+
+@kind(50_000, 100_000, 200_000)
+def plain_segments_sent_again_by_bytes(count):
+    """After a timeout, single bytes of long segments go again, in any order."""
+    sender = Sender(count, selective=False)
+    for begin in range(0, count, MSS):
+        sender.build(min(MSS, count - begin))
+    sender.expire("rto")
+    positions = list(range(1, 1 + count))
+    random.Random(1).shuffle(positions)
+    for position in positions:
+        sender.build_again(position)
+    return sender.case
+
+
+def receive_singly(positions):
+    """Host 0 receives a byte at each of these positions, and acknowledges each with blocks for the last four."""
+    sender = Sender(1)
+    connection, following, received, recent = sender.connection, 1, set(), []
+    for position in positions:
+        sender.process(position, "A", 1, b"\0")
+        received.add(position)
+        while following in received:
+            following += 1
+        recent = [position, *recent[:3]]
+        blocks = [(last, last + 1) for last in recent if following <= last]
+        made = sender.case.make(connection, 0, 1, 0, "A")
+        sender.case.goes(0, connection.text(0, 1, "A", following, blocks=blocks), made)
+    return sender.case
+
+
+@kind(25_000, 50_000, 100_000)
+def selective_receiver_of_gaps(count):
+    """Every second byte comes, and then the others, of which the first is the last."""
+    return receive_singly([*range(2, count, 2), *range(3, count, 2), 1])
+
+
+@kind(25_000, 50_000, 100_000)
+def selective_receiver_in_any_order(count):
+    positions = list(range(1, 1 + count))
+    random.Random(1).shuffle(positions)
+    return receive_singly(positions)
+
+
+@kind(25_000, 50_000, 100_000)
+def selective_receiver_of_a_gap_again_and_again(count):
+    """Each byte comes after the one behind it. The first thousand come last, so that many gaps stay."""
+    far = range(count, 2 * count, 2)
+    return receive_singly([*far, *(position for first in range(2, count, 2) for position in (first, first - 1))])
+
+
+SEGMENT = 1_000
+FLIGHT = 100
+
+
+def carry_again(case, connection, position, payload):
+    """Host 0 sends bytes again. Returns the number of the line of their arrival."""
+    text = connection.text(0, position, "A", 1, payload)
+    return case.comes(1, text, case.goes(0, text, case.make_again(connection, 0, position, len(payload), "A")))
+
+
+def ranges_behind(holes, end):
+    """What arrived behind each of these lost segments, before a position."""
+    parts = [(hole + SEGMENT, min(following, end)) for hole, following in zip(holes, [*holes[1:], end])]
+    return [part for part in parts if part[0] < part[1]]
+
+
+def transfer(count, selective, lost):
+    """Host 0 sends this many segments, a hundred at a time. Of each hundred, those at these places are lost."""
+    case, connection = Case(header=STRICT_HEADER), Connection(selective=selective)
+    opener, child, _ = connected(case, connection)
+    case.take(0, case.carry(connection, 1, 1, "A", 1), INITIAL_WINDOW)
+    payload = bytes(SEGMENT)
+    for begin in range(1, 1 + SEGMENT * count, SEGMENT * FLIGHT):
+        end = begin + SEGMENT * FLIGHT
+        holes = [begin + SEGMENT * place for place in lost]
+        first = min(holes, default=end)
+        sent = []
+        for position in range(begin, end, SEGMENT):
+            case.call(CALLERS[0], f"send {opener} {payload.hex()}", f"ok {SEGMENT}")
+            text = connection.text(0, position, "A", 1, payload)
+            sent.append((position, text, case.goes(0, text, case.make(connection, 0, position, SEGMENT, "A"))))
+        for position, text, out in sent:
+            if position in holes:
+                continue
+            case.take(1, case.comes(1, text, out), INITIAL_WINDOW, keep=1)
+            behind = position + SEGMENT
+            line = case.carry(connection, 1, 1, "A", min(behind, first), blocks=ranges_behind(holes, behind))
+            case.take(0, line, INITIAL_WINDOW, sample=int(position < first))
+        if holes:
+            case.step(f"F 0 {connection.ports[0]} {connection.ports[1]} {MSS} {MSS}")
+        for hole, following in zip(holes, [*holes[1:], end]):
+            case.take(1, carry_again(case, connection, hole, payload), INITIAL_WINDOW, keep=1)
+            line = case.carry(connection, 1, 1, "A", following)
+            case.take(0, line, INITIAL_WINDOW, sample=int(hole + SEGMENT < following))
+        receive_all(case, child, SEGMENT * FLIGHT)
+    return case
+
+
+@kind(2_000, 4_000, 8_000)
+def selective_transfer(count):
+    return transfer(count, True, [17, 50, 51, 93])
+
+
+@kind(2_000, 4_000, 8_000)
+def plain_transfer(count):
+    return transfer(count, False, [])
 
 
 def verdict_of(case):

@@ -119,6 +119,9 @@ class Completion(unittest.TestCase):
                       ["tcpwit-stacks", "lwip", "--least"]):
             self.assertEqual(self.completed(*words, ""), LEVELS)
             self.assertEqual(self.completed(*words, "r"), ["recovery"])
+        for name in ("tcpwit-record", "tcpwit-import"):
+            self.assertEqual(self.completed(name, "--version", ""), list("123456"))
+        self.assertEqual(self.completed("tcpwit-judge", "--version", ""), ["5", "6"])
         self.assertEqual(self.completed("tcpwit-import", "--each", ""), ["pair", "connection"])
         self.assertEqual(sorted(self.completed("tcpwit-import", "--out", "")), ["one.case", "two.trace"])
 

@@ -178,7 +178,7 @@ class Rules(unittest.TestCase):
             (TABLE, "the listen queue is full", "the listen queue was full", "32 queue-full: the words differ"),
             (TABLE, "a round trip was measured", "no round trip was measured", "34 sample: the causes differ"),
             (TABLE, 'captured: "the capture lost', 'rfc: "the capture lost', "31 ack-range: the causes differ"),
-            (TABLE, "&[Known::NothingOutstanding, Known::IsUndone]", "&[]", "37 recovery: the causes differ"),
+            (TABLE, "Known::NothingOutstanding,", "", "37 recovery: the causes differ"),
             (CAUSES, "skips positions that it", "skips what it", "20 old-data: the causes differ"),
             (CAUSES, "lost the segments before", "lost some segments before", "20 old-data: the causes differ"),
             (CAUSES, "coarser than `grain`", "finer than `grain`", "20 old-data: the causes differ"),

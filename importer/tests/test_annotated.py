@@ -12,12 +12,12 @@ from tcpwit_importer.capture.frames import Layout, frames_of
 from tcpwit_importer.capture.packets import packets_of
 from tcpwit_importer.capture.segments import ACK, FIN, SYN
 from tcpwit_importer.commands.annotated import annotate
-from tcpwit_importer.commands.retransmissions import Witness
+from tcpwit_importer.commands.retransmissions import UNJUDGED, Witness
 from tcpwit_importer.commands.rules import SECTIONS, described
 from tcpwit_importer.problem import Notes
 
 from . import samples
-from .test_judge import WithCaptures, no, run
+from .test_judge import WithCaptures, no, reporting, run
 from .wire import SECOND, SIZE, Talk, ethernet, ip_packet, segment
 
 RULES = os.path.join(os.path.dirname(os.path.realpath(__file__)), "..", "..", "docs", "reference", "rules.md")
@@ -233,6 +233,26 @@ class Answers(WithCaptures):
         self.send(talk, 1)
         said = "three duplicate acknowledgments came, the last one in packet 19 (RFC 5681, 3.2)"
         self.assertEqual(self.comments(self.ended(talk)), [{20: [PERMITTED + said]}])
+
+    def test_version_6(self):
+        begin = "tcpwit-judge: this retransmission is permitted at level recovery: "
+        said = "three duplicate acknowledgments or SACK blocks showed a loss, the last ones in packet 11 (RFC 5681, " \
+            "3.2; RFC 6675, 5)"
+        self.assertEqual(self.comments(reporting(), "--version", "6"), [{12: [begin + said]}])
+        for blocks in (True, False):
+            self.assertEqual(self.comments(reporting(blocks), "--version", "6", "--level", "none"),
+                             [{12: [f"tcpwit-judge: {UNJUDGED}"]}])
+
+    def test_a_fin_without_data_in_version_6(self):
+        talk = Talk()
+        talk.send(0, FIN | ACK, lost=True)
+        talk.next[0] -= 1
+        talk.send(0, FIN | ACK)
+        talk.send(1, FIN | ACK)
+        talk.send(0)
+        self.assertEqual(self.comments(talk, "--version", "6"),
+                         [{5: ["tcpwit-judge: this retransmission is permitted at level recovery: a FIN without data "
+                               "may be sent again at any time (RFC 9293, 3.10.4)"]}])
 
     def test_probes(self):
         talk = Talk()

@@ -14,10 +14,10 @@ from tcpwit_importer.capture.connections import Connection
 from tcpwit_importer.capture.packets import packets_of
 from tcpwit_importer.capture.segments import ACK, FIN, RST, SYN
 from tcpwit_importer.infer.before import Received, edge_of, pause, sent_before, shift_of, unwrapped
-from tcpwit_importer.infer.begun import growing, trips_for
+from tcpwit_importer.infer.begun import growing, trips_for, trips_of_closed
 from tcpwit_importer.problem import Notes
 
-from .test_judge import WithCaptures, run
+from .test_judge import WithCaptures, reporting, run
 from .test_recordings import DATA
 from .wire import ONE, SECOND, ZERO, Talk, ethernet, ip_packet, packed, packets, pcap, segment
 
@@ -234,6 +234,13 @@ class Answers(WithCaptures):
                 self.end(True)
                 self.assertEqual(self.rule(cut=cut), "recovery yes")
 
+    def test_blocks_show_that_both_syns_permitted_them(self):
+        for cut in (1, 3, 4, 5, 6):
+            for words, hosts in (([], (0, 1)), (["--host", "client"], (0,))):
+                with self.subTest(cut, hosts=hosts):
+                    self.talk = reporting()
+                    self.assertEqual(self.rule("--version", "6", *words, hosts=hosts, cut=cut), "recovery yes")
+
     def test_an_acknowledgment_of_what_was_never_sent(self):
         self.talk.next[0] += 50
         self.talk.send(1)
@@ -275,7 +282,7 @@ class Answers(WithCaptures):
 class Pauses(WithCaptures):
     """Retransmissions and probes whose pauses were growing when the capture began."""
 
-    def answers(self, rows, cuts):
+    def answers(self, rows, cuts, version):
         """The answers to the client's capture without its first packets. A row has the moment in seconds, the sender,
         the number, the acknowledgment, the length and the window."""
         frames = []
@@ -285,7 +292,7 @@ class Pauses(WithCaptures):
             frames.append((100 * SECOND + int(moment * SECOND), ethernet(ip_packet(*ends, made))))
         for place in cuts:
             pcap(f"{self.folder}/late.pcap", frames[place:])
-            _, out, _ = run(f"{self.folder}/late.pcap", *OF_CLIENT, "--json", "--jobs", "1")
+            _, out, _ = run(f"{self.folder}/late.pcap", *OF_CLIENT, "--json", "--jobs", "1", "--version", version)
             found = json.loads(out)
             yield found["level"], found["answer"]
 
@@ -294,7 +301,8 @@ class Pauses(WithCaptures):
         rows = [(moment, 0, 1101, 5101, 100, 1000) for moment in moments[:7]]
         rows += [(moments[7] - 0.05, 1, 5101, 1201, 0, 1000), (moments[7], 0, 1201, 5101, 100, 1000),
                  (moments[7] + 0.001, 1, 5101, 1301, 0, 1000)]
-        self.assertEqual(set(self.answers(rows, (0, 3, 5, 6))), {("recovery", "yes")})
+        for version in ("5", "6"):
+            self.assertEqual(set(self.answers(rows, (0, 3, 5, 6), version)), {("recovery", "yes")}, version)
 
     def test_probes(self):
         moments = [0.1 + 0.2 * (2**time - 1) for time in range(7)]
@@ -303,7 +311,8 @@ class Pauses(WithCaptures):
             rows += [(moment, 0, 2101, 5101, 1, 1000), (moment + 0.001, 1, 5101, 2101, 0, 0)]
         rows += [(moments[6] - 0.05, 1, 5101, 2101, 0, 1000), (moments[6] - 0.049, 0, 2101, 5101, 100, 1000),
                  (moments[6] - 0.048, 1, 5101, 2201, 0, 1000)]
-        self.assertEqual(set(self.answers(rows, (0, 1, 8, 9))), {("recovery", "yes")})
+        for version in ("5", "6"):
+            self.assertEqual(set(self.answers(rows, (0, 1, 8, 9), version)), {("recovery", "yes")}, version)
 
 
 class Trips(unittest.TestCase):
@@ -314,6 +323,14 @@ class Trips(unittest.TestCase):
             self.assertLessEqual(trips[0], 2.7 * SECOND)
             found = growing(max(trips), least)[1]
             self.assertTrue(0.9 * timeout < found <= timeout, (timeout, found))
+
+    def test_the_timeout_before_a_closed_window(self):
+        # After two equal round trips, RTTVAR is 3/8 of one.
+        for timeout in (3 * 10**8, 2 * SECOND, 6 * SECOND):
+            trips = trips_of_closed(timeout)
+            self.assertEqual(len(set(trips)), 1)
+            self.assertTrue(0.9 * timeout < trips[0] * 5 // 2 <= timeout, timeout)
+        self.assertLessEqual(trips_of_closed(40 * SECOND)[0], 2.7 * SECOND)
 
 
 @unittest.skipUnless(os.environ.get("TCPWIT_LAB"), "TCPWIT_LAB names no program")

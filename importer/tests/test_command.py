@@ -134,6 +134,27 @@ class Command(WithFiles):
         self.refused([*self.captures, *self.logs, "--congestion", "none", "--version", "2"],
                      "format version 2 has no line congestion")
 
+    def test_version_6(self):
+        words = [*self.captures, *self.logs, "--version", "6"]
+        status, out, error = run(*words)
+        lines = out.splitlines()
+        self.assertEqual((status, lines[0], lines[7:12]),
+                         (0, "trace 6", ["hosts 2", "congestion recovery", "slack 1000000", "sender cubic",
+                                         "growth any"]), error)
+        # The events are the same.
+        self.assertEqual(lines[12:], run(*self.captures, *self.logs)[1].splitlines()[10:])
+        self.assertEqual(run(*words, "--congestion", "none", "--slack", "0")[1].splitlines()[8:10],
+                         ["congestion none", "slack 0"])
+        self.assertEqual(run(*self.captures[:3], *self.logs[:3], *words[-2:])[1].splitlines()[7], "hosts 1")
+
+    def test_version_6_has_no_level_full(self):
+        remedy = "format version 6 has no level full\n  leave out --version, or give {} recovery\n"
+        for given, option in ((["--congestion", "full"], "--congestion"), (["--from", "full"], "--from"),
+                              (["--congestion", "none", "--from", "full"], "--from")):
+            self.refused([*self.captures, *self.logs, "--version", "6", *given], remedy.format(option))
+            with mock.patch("os.geteuid", return_value=0):
+                self.refused(["--transfer", "5", "--version", "6", *given], remedy.format(option), recording)
+
     def test_how_late_a_duty_may_be(self):
         for slack in ("any", "0", "20000", str(10**18)):
             status, out, error = run(*self.captures, *self.logs, "--slack", slack)

@@ -80,6 +80,26 @@ def run(*words):
     return status, out.getvalue(), error.getvalue()
 
 
+def reporting(blocks=True):
+    """A connection in which the first of five segments is lost and, after a single acknowledgment, sent again. With
+    blocks, that reports the others."""
+    talk = Talk(options=b"\2\4\0\x64\4\2\1\1")
+    talk.send(0, payload=b"a" * 100)
+    talk.send(1)
+    first, last = talk.next[0], talk.next[0] + 500
+    for number in range(5):
+        talk.send(0, payload=bytes([number]) * 100, lost=not number)
+    talk.next[0] = first
+    talk.send(1, options=struct.pack("!BBBBII", 1, 1, 5, 10, first + 100, last) if blocks else b"")
+    talk.send(0, payload=bytes(100))
+    talk.next[0] = last
+    talk.send(1)
+    talk.send(0, FIN | ACK)
+    talk.send(1, FIN | ACK)
+    talk.send(0)
+    return talk
+
+
 def cooked(frames, own):
     """The frames of a capture of all interfaces, which marks those of a host as sent."""
     return [(moment, struct.pack("!HHHQ", 4 if own in frame[26:30] else 0, 1, 6, 0) + frame[12:14] + frame[14:])
@@ -187,6 +207,19 @@ class Lines(WithCaptures):
         run(*self.files(), *self.lab(), "--minrto", "1000000", "--initial", "5681", "--grain", "1", "--msl", "2")
         self.assertIn("\nmsl 2\ngrain 1\nminrto 1000000\nextra 65535\ninitial 5681\n", self.text("given"))
 
+    def test_version_6(self):
+        status, out, _ = run(*self.files(), *self.lab(), "--version", "6", "--slack", "5", "--initial", "5681")
+        self.assertEqual((status, self.text("words")), (0, "judge --json --least recovery --slack 5\n"), out)
+        self.assertEqual(self.text("given").splitlines()[:12],
+                         ["trace 6", "skew 0", "msl 60000000", "grain 4000", "minrto 200000", "extra 65535",
+                          "initial 5681", "hosts 2", "congestion recovery", "slack 5", "sender cubic", "growth any"])
+        run(*self.files(hosts=(0,)), *self.lab(), "--version", "6", "--between", "--level", "none", "--from",
+            "recovery")
+        self.assertIn("judge --json --least none --from recovery --slack any\n", self.text("words"))
+        self.assertEqual(self.text("given").splitlines()[8:10], ["congestion recovery", "slack any"])
+        run(*self.files(), *self.lab(), "--version", "5")
+        self.assertEqual(self.text("given")[:8], "trace 5\n")
+
     def test_connections_in_their_order(self):
         second = Talk(zero=("10.9.0.1", 4001), at=99 * 10**9)
         for host in (0, 1):
@@ -278,11 +311,13 @@ class Lines(WithCaptures):
                          f"tcpwit-judge: {report} isn't empty")
 
     def test_rules_that_inferred_calls_leave_out(self):
-        # `judge` prints what its level judges; rule 48, start-late, needs the real calls.
+        # `judge` prints what its level judges; rules 48, start-late, and 57, answer-late, need the real calls.
         said = "No duty was late{} (rules {})."
         for time, rules, judged in (("", "40 to 52", "40 to 47 and 49 to 52"),
                                     (" by more than 1 second", "40 to 50 and 52", "40 to 47, 49, 50 and 52"),
-                                    ("", "40 to 49 and 52", "40 to 47, 49 and 52")):
+                                    ("", "40 to 49 and 52", "40 to 47, 49 and 52"),
+                                    ("", "40 to 50, 52, 56 and 57", "40 to 47, 49, 50, 52 and 56"),
+                                    ("", "40 to 49, 52, 56 and 57", "40 to 47, 49, 52 and 56")):
             report = f"{self.folder}/{rules}"
             _, out, _ = run(*self.files(), *self.lab(YES | {"said": [said.format(time, rules)]}), "--report", report,
                             "--json")
@@ -432,6 +467,15 @@ class Faults(WithCaptures):
                       self.fails(*names, "--host", "client", *self.lab()))
         self.assertIn("--from none is laxer than --level recovery",
                       self.fails(*names, "--level", "recovery", "--from", "none", *self.lab()))
+        self.assertIn("--from none is laxer than --level recovery",
+                      self.fails(*names, "--version", "6", "--from", "none", *self.lab()))
+        for level in (["--level", "full"], ["--level", "none", "--from", "full"]):
+            self.assertEqual("tcpwit-judge: format version 6 has no level full",
+                             self.fails(*names, "--version", "6", *level, *self.lab()))
+        self.assertIn(f"\n  leave out --version, or give {level[-2]} recovery\n",
+                      run(*names, "--version", "6", *level, *self.lab())[2])
+        # `judge` would rewrite older traces.
+        self.assertIn("invalid choice: 4", run(*names, "--version", "4", *self.lab())[2])
 
     def test_compressed_captures(self):
         for name in self.files():
@@ -508,6 +552,13 @@ class Verdicts(WithCaptures):
             self.assertIn("   full      yes ", self.judged(self.talk, **words)[0])
         for host, name in ((0, "client"), (1, "server")):
             self.assertIn("   full      yes ", self.judged(self.talk, "--host", name, hosts=(host,))[0])
+
+    def test_version_6_reads_blocks(self):
+        # A single acknowledgment reports four segments, so that the one before them is lost (RFC 6675, 4).
+        for blocks, level in ((True, "recovery  yes "), (False, "none      yes ")):
+            words = ["--level", "none", "--from", "recovery"]
+            self.assertIn(f"   {level}", self.judged(reporting(blocks), *words, "--version", "6")[0])
+            self.assertIn("   none      yes ", self.judged(reporting(blocks), *words)[0])
 
     def test_an_acknowledgment_that_is_missing(self):
         talk = Talk()

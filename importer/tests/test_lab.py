@@ -82,6 +82,20 @@ class Judging(test_command.WithFiles):
             self.refused(["--transfer", "5", "--congestion", "recovery", "--from", "none", *self.lab(LINES)],
                          "--from none is laxer than --congestion recovery", recording)
 
+    def test_the_levels_of_version_6(self):
+        self.importing(*self.lab(LINES), "--version", "6")
+        self.assertEqual(self.text("run.trace")[:8], "trace 6\n")
+        self.importing(*self.lab(LINES), "--version", "6", "--congestion", "none", "--from", "recovery")
+        self.recorded(*self.lab(LINES), "--version", "6")
+        self.assertEqual(self.text("kept/run.trace").splitlines()[8:],
+                         self.text("given").splitlines()[8:])
+        self.assertEqual(self.text("kept/run.trace").splitlines()[8], "congestion recovery")
+        self.assertEqual(self.text("words"),
+                         "judge --least recovery --case ./run.case\njudge --least none --from recovery --case "
+                         "./run.case\njudge --least recovery --case ./run.case\ndraw\n")
+        self.refused([*self.captures, *self.logs, "--out", f"{self.folder}/run.trace", "--version", "6", "--from",
+                      "none", *self.lab(LINES)], "--from none is laxer than --congestion recovery")
+
     def test_the_slack(self):
         self.importing(*self.lab(LINES), "--slack", "any")
         self.assertEqual(self.text("run.trace").splitlines()[9], "slack any")

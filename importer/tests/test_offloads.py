@@ -154,6 +154,12 @@ class Headers(unittest.TestCase):
         self.assertEqual(header(1, 0, {}, 4)[6:], ["initial 6928", "hosts 1", "congestion full"])
         self.assertEqual(header(2, 7, {"congestion": "none"}, 4),
                          ["trace 4", "skew 7", *whole[1:], "hosts 2", "congestion none"])
+        for hosts in (1, 2):
+            self.assertEqual(header(hosts, 0, {}, 6),
+                             ["trace 6", *whole, f"hosts {hosts}", "congestion recovery", "slack 1000000",
+                              "sender cubic", "growth any"])
+        self.assertEqual(header(2, 0, {"congestion": "none", "slack": "any"}, 6)[8:],
+                         ["congestion none", "slack any", "sender cubic", "growth any"])
 
     def test_refusals(self):
         for words in ((1, 0, {}, 2), (2, 0, {}, 3), (2, 0, {"congestion": "full"}, 2), (2, 0, {"initial": "5681"}, 1),

@@ -7,6 +7,7 @@ each connection without its calls.
 import json
 import os
 import re
+import subprocess
 import tarfile
 import tempfile
 import unittest
@@ -63,6 +64,21 @@ class Recordings(unittest.TestCase):
                     # A better witness may be found, for a stricter level.
                     self.assertIn(strictest, LEVELS[:LEVELS.index(level) + 1], out + error)
                     self.assertEqual(status, 0 if options or strictest == "full" else 1)
+
+    @unittest.skipUnless(os.environ.get("TCPWIT_LAB"), "TCPWIT_LAB names no program")
+    def test_version_6(self):
+        for name in ("abort", "half-curl", "redis-cli"):
+            with self.subTest(name):
+                trace = f"{self.folder.name}/{name}-6.trace"
+                status, out, error = run(*files_of(os.path.join(self.folder.name, name)), "--version", "6", "--out",
+                                         trace)
+                self.assertEqual((status, out[:14]), (0, "recovery  yes "), error)
+                with open(trace.replace(".trace", ".case"), encoding="ascii") as case:
+                    self.assertEqual(case.readline(), "trace 6\n")
+                    case.seek(0)
+                    explained = subprocess.run([os.environ["TCPWIT_LAB"], "explain"], stdin=case, capture_output=True,
+                                               text=True, check=False)
+                self.assertEqual(explained.stdout.splitlines()[0], out.splitlines()[0].replace("recovery  ", ""))
 
     @unittest.skipUnless(os.environ.get("TCPWIT_LAB"), "TCPWIT_LAB names no program")
     def test_verdicts_without_the_logs(self):

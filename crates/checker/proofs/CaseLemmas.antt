@@ -2,21 +2,16 @@
 use Rattle.std.proofs.Common.{◌≡◌, ◌≢◌, ◌+◌, ℕ, true, false, List, [], ◌∷◌, ◌++◌, length, take, drop, refl, sym, ap}
 use Rattle.std.proofs.Common.{◌∙◌, arith, append-nil, append_assoc, length-append, Some, Result, Ok, Err}
 use Rattle.std.specs.List.{AllByRecursion, concat}
-use Rattle.std.proofs.lemmas.List.{take_at, drop_at, take-append-drop}
+use Rattle.std.proofs.lemmas.List.{take_at, drop_at}
 use Rattle.bstr.specs.Text.{lines_of}
 use Rattle.bstr.proofs.lemmas.RestLemmas.{concat-lines_of}
-use Rattle.case_forms.specs.declared.trace.Trace.{Trace}
 use Rattle.case_forms.specs.declared.version.Version.{Version}
-use Rattle.line_fields.specs.declared.fault.TextFault.{TextFault}
 use Rattle.case_lines.specs.FirstLine.{version_named}
-use Rattle.trace_reader.specs.TraceText.{IsTraceText, trace_of}
-use Rattle.trace_reader.proofs.TraceLaw.{trace_named, trace_takes}
-use Rattle.witness.specs.WitnessText.{witness_for}
 use Rattle.witness.specs.FirstLine.{begins_witness}
 use Rattle.checker.specs.declared.case.CaseFault.TheVariants as faults
 use Rattle.verdict.specs.declared.report.Verdict.{Verdict}
 use Rattle.checker.specs.declared.case.CaseFault.{CaseFault}
-use Rattle.checker.specs.Cases.{cut_place, trace_part, witness_part, judged, case_of, case_result, GivesCase}
+use Rattle.checker.specs.Cases.{cut_place, trace_part, witness_part, case_of, case_result, GivesCase}
 use Rattle.checker.specs.Texts.{GivesTexts}
 
 pub concat_both : (xs ys : List (List ℕ)) → concat (xs ++ ys) ≡ concat xs ++ concat ys

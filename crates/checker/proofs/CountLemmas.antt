@@ -22,8 +22,6 @@ use Rattle.verdict.proofs.RuleLemmas.{none_all, none_both}
 use Rattle.interval_order.specs.Orders.{Move, Order, order_of, is_placed, unplaced, held_line, held_after, is_offered}
 use Rattle.interval_order.specs.OrderRules.{order_rules}
 use Rattle.interval_order.proofs.OrderLemmas.{order_more, order_first}
-use Rattle.spec_network.specs.HostSteps.{start}
-use Rattle.spec_tcp.specs.Machine.{tcp, tcp_shape}
 use Rattle.spec_tcp_laws.proofs.Rules.{not_false, and_false, neither}
 use Rattle.spec_cases.specs.Cases.{Known, first_known}
 use Rattle.checker.specs.Seen.{move_of, moves, act_of, take_of}

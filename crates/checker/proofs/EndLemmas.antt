@@ -12,7 +12,7 @@ use Rattle.case_forms.specs.declared.steps.Step.{Step}
 use Rattle.verdict.specs.declared.rule.Rule.{Rule}
 use Rattle.verdict.specs.declared.rule.Rule.TheVariants.{Unplaced}
 use Rattle.verdict.specs.declared.report.Verdict.{Verdict}
-use Rattle.verdict.specs.declared.report.Verdict.TheVariants.{Yes, No}
+use Rattle.verdict.specs.declared.report.Verdict.TheVariants.{No}
 use Rattle.line_fields.specs.declared.fault.TextFault.{TextFault}
 use Rattle.line_fields.specs.Left.{Yields}
 use Rattle.trace_reader.specs.TraceLeft.{lines_left}

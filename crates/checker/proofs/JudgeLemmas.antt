@@ -3,7 +3,6 @@ use Rattle.std.proofs.Common.{◌≡◌, ℕ, ◌+◌, ◌<◌, zero, suc, true,
 use Rattle.std.proofs.Common.{subst, arith, Option, Some, None, inl, inr, ◌⊎◌, append_assoc, append-nil, length-append}
 use Rattle.std.proofs.Common.{Result, Ok, Err}
 use Rattle.std.specs.Prelude.{not, count_by, slice_get, IfOk}
-use Rattle.std.specs.List.{cons_option}
 use Rattle.std.specs.Option.{option_map_or}
 use Rattle.case_forms.specs.declared.trace.Header.{Header}
 use Rattle.case_forms.specs.declared.trace.Line.{Line}
@@ -17,15 +16,15 @@ use Rattle.verdict.specs.declared.report.Verdict.TheVariants.{Yes, No}
 use Rattle.interval_order.specs.Orders.{unplaced, order_of}
 use Rattle.interval_order.specs.OrderRules.{order_rules}
 use Rattle.spec_network.specs.Hosts.{Stamped}
-use Rattle.spec_tcp.specs.Machine.{tcp, tcp_shape}
+use Rattle.spec_tcp.specs.Machine.{tcp_shape}
 use Rattle.spec_tcp_laws.specs.Ascending.{ascend, IsLeastBroken}
 use Rattle.spec_tcp_laws.proofs.Ascending.{first_is_least}
 use Rattle.spec_cases.specs.Cases.{Known, first_known, known_after_all}
 use Rattle.watched.proofs.RefusalLemmas.{all_ascend as step_ascend}
 use Rattle.checker.specs.Seen.{move_of, moves, act_of, stamped}
-use Rattle.checker.specs.Verdicts.{act_after, act_rules, all_rules, broken, next_world, takes_line, line_named, verdict, verdict_from, verdict_left, late_after}
+use Rattle.checker.specs.Verdicts.{act_rules, all_rules, broken, next_world, takes_line, line_named, verdict, verdict_from, verdict_left, late_after}
 use Rattle.checker.specs.Verdicts.{refused_or}
-use Rattle.checker.specs.Explains.{Explains, IsYes}
+use Rattle.checker.specs.Explains.{IsYes}
 use Rattle.checker.specs.Meaning.{Means}
 use Rattle.checker.specs.Judges.{broken_at, rules_at, Says}
 use Rattle.checker.proofs.YesLemmas.{after_more, yes_explains}

@@ -22,7 +22,6 @@ use Rattle.interval_order.specs.Orders.{Order, Move, taking, passing, is_placed,
 use Rattle.interval_order.specs.OrderRules.{order_rules}
 use Rattle.interval_order.specs.Later.{TakesBelow, AreLater, late_rule}
 use Rattle.interval_order.proofs.LaterLemmas.{order_with, passing_same, taking_same, beyond_is, not_offered, late_line, line_at-front}
-use Rattle.spec_tcp.specs.Machine.{tcp_shape}
 use Rattle.spec_cases.specs.Cases.{Known}
 use Rattle.checker.specs.Seen.{move_of, moves, act_of, stamped}
 use Rattle.checker.specs.Verdicts.{act_rules, broken}

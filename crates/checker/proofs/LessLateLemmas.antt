@@ -17,7 +17,6 @@ use Rattle.verdict.specs.declared.rule.Rule.TheVariants.{Unplaced}
 use Rattle.interval_order.specs.OrderRules.{order_rules}
 use Rattle.interval_order.specs.Orders.{Move, last_moment, order_of}
 use Rattle.interval_order.specs.Placed.{Placed}
-use Rattle.spec_network.specs.HostRules.{step_rules}
 use Rattle.spec_network.specs.HostSteps.{start, Lawful}
 use Rattle.spec_network.specs.Hosts.{Idle, Stamped}
 use Rattle.spec_network.specs.Turns.{Turns}

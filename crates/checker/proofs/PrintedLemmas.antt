@@ -39,7 +39,7 @@ use Rattle.case_lines.specs.FirstLine.{first_words}
 use Rattle.trace_reader.specs.Headers.{AreLines, slack_words, sender_words, growth_words, late, late_words, header_words}
 use Rattle.trace_reader.specs.Events.{event_pieces}
 use Rattle.trace_reader.specs.EventLines.{Place, behind, line_pieces, IsEventLine}
-use Rattle.trace_reader.specs.TraceText.{first_place, IsTraceText, trace_of}
+use Rattle.trace_reader.specs.TraceText.{first_place, IsTraceText}
 use Rattle.trace_reader.specs.Printed.{trace_text}
 use Rattle.trace_reader.specs.Printable as traces
 use Rattle.trace_reader.proofs.EventLineLaw.{line_is_raw, line_clean}

@@ -23,8 +23,7 @@ use Rattle.verdict.specs.Rules.{first_broken}
 use Rattle.interval_order.specs.Orders.{Take, Move, Order, order_of, is_placed, unplaced, last_moment, held_line, is_offered}
 use Rattle.interval_order.specs.OrderRules.{extras_of, order_rules, has_earlier, is_overdue, has_overdue}
 use Rattle.spec_network.specs.Hosts.{Stamped}
-use Rattle.spec_network.specs.HostSteps.{start}
-use Rattle.spec_tcp.specs.Machine.{tcp, tcp_shape}
+use Rattle.spec_tcp.specs.Machine.{tcp_shape}
 use Rattle.spec_tcp.specs.Steps.{label_step}
 use Rattle.spec_cases.specs.Cases.{Known, first_known}
 use Rattle.checker.specs.Seen.{move_of, moves, act_of}

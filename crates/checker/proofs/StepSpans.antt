@@ -1,5 +1,5 @@
 -- Witnesses that are the same but for the places of their steps have one verdict.
-use Rattle.std.proofs.Common.{◌≡◌, ◌+◌, ℕ, Bool, not, List, [], ◌∷◌, ◌++◌, map, length, refl, sym, ap, ◌∙◌, Option, Some, None}
+use Rattle.std.proofs.Common.{◌≡◌, ◌+◌, ℕ, Bool, not, List, [], ◌∷◌, ◌++◌, map, refl, sym, ap, ◌∙◌, Option, Some, None}
 use Rattle.std.specs.Prelude.{if◌then◌else◌}
 use Rattle.std.specs.List.{count_by, fold}
 use Rattle.std.specs.Option.{option_map_or}
@@ -17,8 +17,6 @@ use Rattle.verdict.specs.declared.report.Verdict.{Verdict}
 use Rattle.verdict.specs.Rules.{first_broken}
 use Rattle.interval_order.specs.Orders.{last_moment, Move, order_of, unplaced}
 use Rattle.interval_order.specs.OrderRules.{order_rules}
-use Rattle.spec_network.specs.HostSteps.{start}
-use Rattle.spec_tcp.specs.Machine.{tcp, tcp_shape}
 use Rattle.spec_cases.specs.Cases.{late_at_end, Known, first_known}
 use Rattle.checker.specs.Seen.{move_of, moves, act_of}
 use Rattle.checker.specs.Verdicts.{act_rules, broken, next_world, takes_line, late_after, verdict, verdict_from, verdict_left, refused_or}

@@ -26,11 +26,9 @@ use Rattle.watched.proofs.ForgetLemmas.{late-forget}
 use Rattle.checker.specs.Seen.{move_of, moves}
 use Rattle.checker.specs.Kept.{kept_broken, kept_progress}
 use Rattle.checker.specs.Verdicts.{broken, late_after, next_world, line_named, verdict_from, verdict_left, refused_or}
-use Rattle.counted.specs.Counting.{left_of}
 use Rattle.case_forms.specs.Traces.{IsRecorded}
 use Rattle.line_fields.specs.Folding.{read_lines}
 use Rattle.line_fields.proofs.Loop.{spelled_takes}
-use Rattle.line_fields.specs.Rows.{rows_of}
 use Rattle.trace_reader.specs.EventLines.{Place, behind, line_of, IsEventLine}
 use Rattle.case_lines.specs.TextLeft.{rows_left}
 use Rattle.trace_reader.specs.declared.stream.TraceReader.{TraceReader}

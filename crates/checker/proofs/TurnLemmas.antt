@@ -1,11 +1,10 @@
 -- What a turn of the loop has come to.
-use Rattle.std.proofs.Common.{◌≡◌, ◌≤◌, ◌<◌, ◌+◌, ℕ, List, [], ◌∷◌, ◌++◌, Option, Some, None, Result, IfSome, refl, sym, ap, subst, arith}
+use Rattle.std.proofs.Common.{◌≡◌, ◌≤◌, ◌<◌, ◌+◌, ℕ, List, [], ◌∷◌, ◌++◌, Option, Some, None, Result, IfSome, sym, ap, subst, arith}
 use Rattle.std.specs.Prelude.{All, not, ◌==◌, Ok, Err, OnOk, IfOk, IfErr}
 use Rattle.std.proofs.lemmas.List.Elements.{All-filter}
 use Rattle.case_forms.specs.declared.trace.Header.{Header}
 use Rattle.case_forms.specs.declared.trace.Line.{Line}
 use Rattle.case_forms.specs.declared.steps.Step.{Step}
-use Rattle.verdict.specs.declared.rule.Rule.{Rule}
 use Rattle.line_fields.specs.declared.fault.TextFault.{TextFault}
 use Rattle.line_fields.specs.Left.{Yields}
 use Rattle.interval_order.specs.Orders.{Move, Order, Take, order_after, held_after}

@@ -17,7 +17,6 @@ use Rattle.interval_order.proofs.PlacedFrom.{IsOrderly, placed_from_orderly}
 use Rattle.interval_order.proofs.PlacedTo.{orderly_from_placed}
 use Rattle.spec_network.specs.Hosts.{Stamped}
 use Rattle.spec_network.specs.HostSteps.{start, Lawful}
-use Rattle.spec_network.specs.HostRules.{step_rules}
 use Rattle.spec_network.proofs.Turns.{turns}
 use Rattle.spec_tcp.specs.Machine.{tcp, tcp_shape}
 use Rattle.spec_cases.specs.Cases.{Known, first_known, Dutiful, known_after_all, model_rules, watch_rules}

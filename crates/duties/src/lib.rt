@@ -15,7 +15,7 @@
 //! - `per_host`: a value for each host
 //! - `laws`: what a greater slack accepts
 //!
-//! Each function of a step is inlined. Otherwise what a step shows (`Observation`, some 300 bytes) is copied from one
+//! Each function of a step is inlined. Otherwise what a step shows (`Observation`, some 400 bytes) is copied from one
 //! to the next, which takes as long as all that they compute.
 #![tactic(auto)]
 

@@ -1,2 +1,6 @@
 pub mod SetLemmas
+pub mod FreeLemmas
 pub mod TableLemmas
+pub mod WalkLemmas
+pub mod DeliveredLemmas
+pub mod Facts

@@ -1,35 +1,50 @@
 //! What is kept of an endpoint.
 
 ghost use Rattle.std.specs.Prelude.{◌≡◌, OnOk};
-ghost use Rattle.std.specs.FinSet.{from_list};
-ghost use Rattle.streams.specs.Ranges.{covers};
-ghost use Rattle.spec_flights.specs.Flights.{broken_at, flight_after, goes_again, may_begin, may_go_again, unflown};
+ghost use Rattle.spec_flights.specs.Flights.{broken_at, finds_lost, flight_after};
+ghost use Rattle.spec_flights.specs.Flights.{goes_again, marks_oldest, may_begin, number_built, rescued_after, unflown};
+ghost use Rattle.spec_flights.specs.Flights.{uses_rescue};
 ghost use Rattle.spec_flights.specs.Marks.{marks_after};
 
+use crate::delivered::{read_reports, remove_reports};
 use crate::marks::{is_fin_alone, making_length, marked_by, old_part, taken_by};
 use crate::recovering::{is_recovering, is_repairing, none_begun, recovery_after};
+use crate::scoreboard::Scoreboard;
 use crate::sides::{are_selective, neither, sides_after};
-use case_forms::{OutOfMemory, SegmentPlan};
-use spec_duties::{Event, SynChange, View};
-use spec_flights::{Recovery, Sides, Stretch};
+use crate::steps::Now;
+use case_forms::{OutOfMemory, SegmentPlan, Timer};
+use spec_duties::{BuiltChange, Event, Observation, SynChange, TouchedEndpoint, View};
+use spec_flights::{Recovery, Reports, Sides};
 use std::alloc::Global;
 use std::marker::Model;
 use streams::Ranges;
 use verdict::Rule;
 
-/// What is kept of an endpoint: what the two SYNs permit, from which loss it recovers, and which positions are marked.
+/// What is kept of an endpoint: what the two SYNs permit, from which loss it recovers, which positions are marked, what
+/// is known of each outstanding one, and whether it made use of a rescue since the recovery began.
 #[derive(Drop)]
 pub(crate) struct Flight {
-    sides: Sides,
-    recovery: Recovery,
-    marks: Ranges,
+    pub(crate) sides: Sides,
+    pub(crate) recovery: Recovery,
+    pub(crate) marks: Ranges,
+    pub(crate) board: Scoreboard,
+    pub(crate) rescued: bool,
 }
 
-// Whether it holds positions that were sent before, and isn't a FIN without bytes.
-fn goes_again(v: &View, plan: &SegmentPlan) -> bool
+/// Whether it holds positions that were sent before, and isn't a FIN without bytes.
+pub(crate) fn goes_again(v: &View, plan: &SegmentPlan) -> bool
     ensures { result ≡ goes_again v.now plan.now }
 {
     0 < making_length(plan) && plan.pos < v.snd_max && !is_fin_alone(plan, v)
+}
+
+fn number_built(change: BuiltChange) -> u32
+    ensures { result ≡ number_built change }
+{
+    match change {
+        BuiltChange::Builds(number) => number,
+        BuiltChange::Nothing | BuiltChange::Sends(_) => 0,
+    }
 }
 
 impl Model for Flight {
@@ -38,7 +53,13 @@ impl Model for Flight {
 
     ghost Value = { Flight };
 
-    ghost view = { λ a. record { sides = a.sides; recovery = a.recovery; marks = items a.marks } };
+    ghost view = { λ a. record {
+      sides = a.sides;
+      recovery = a.recovery;
+      marks = items a.marks;
+      board = a.board;
+      rescued = a.rescued;
+    } };
 }
 
 impl Flight {
@@ -50,48 +71,43 @@ impl Flight {
             sides: neither(),
             recovery: none_begun(),
             marks: Ranges::new(alloc),
+            board: Scoreboard::new(alloc),
+            rescued: false,
         }
     }
 
-    // Whether all positions of a stretch are marked.
-    fn is_marked(&self, stretch: Stretch) -> bool
-        ensures { result ≡ covers (from_list self.now.marks) stretch.from stretch.upto }
+    // Whether something is lost, or given up.
+    fn finds_lost(&self, clock: u128, v: &View) -> bool
+        ensures { result ≡ finds_lost clock v.now self.now }
     {
-        self.marks.covers(stretch.from, stretch.upto)
+        self.board
+            .has_below(self.board.resent_below(false, clock), v)
     }
 
-    fn may_go_again(&self, v: &View, plan: &SegmentPlan) -> bool
-        ensures { result ≡ may_go_again v.now plan.now self.now }
+    fn may_begin(&self, clock: u128, v: &View) -> bool
+        ensures { result ≡ may_begin clock v.now self.now }
     {
-        self.is_marked(old_part(v, plan))
-            || are_selective(self.sides) && is_recovering(v, self.recovery)
-    }
-
-    fn may_begin(&self, v: &View) -> bool
-        ensures { result ≡ may_begin v.now self.now }
-    {
-        let is_within = if are_selective(self.sides) {
-            is_recovering(v, self.recovery)
+        if are_selective(self.sides) {
+            !is_recovering(v, self.recovery) && (2 < v.dup || self.finds_lost(clock, v))
         } else {
-            v.fast
-        };
-        2 < v.dup && !is_within
+            2 < v.dup && !v.fast
+        }
     }
 
-    /// The rule that a step breaks. None: it breaks none.
-    pub(crate) fn broken_at(&self, event: &Event, v: &View) -> Option<Rule>
-        ensures { result ≡ broken_at event.now v.now self.now }
+    /// The rule that a step breaks. `clock`: the moment, and how far a clock may be wrong. None: it breaks none.
+    pub(crate) fn broken_at(&self, clock: u128, event: &Event, v: &View) -> Option<Rule>
+        ensures { result ≡ broken_at clock event.now v.now self.now }
     {
         match event {
             Event::Builds(plan) => {
-                if goes_again(v, plan) && !self.may_go_again(v, plan) {
+                if goes_again(v, plan) && !self.may_go_again(clock, v, old_part(v, plan)) {
                     Some(Rule::OldData)
                 } else {
                     None
                 }
             }
             Event::Recovers => {
-                if self.may_begin(v) {
+                if self.may_begin(clock, v) {
                     None
                 } else {
                     Some(Rule::Recovery)
@@ -106,22 +122,75 @@ impl Flight {
         }
     }
 
+    // Whether a step marks the first segment, if the endpoint has these values after it.
+    fn marks_oldest(
+        &self,
+        clock: u128,
+        touched: &TouchedEndpoint,
+        after: &View,
+        sides: Sides,
+        recovery: Recovery,
+    ) -> bool
+        ensures { result ≡ marks_oldest clock touched.now.event touched.now.before after.now sides recovery self.now }
+    {
+        match touched.event {
+            Event::Processes { .. } => {
+                touched.before.snd_una < after.snd_una
+                    && !are_selective(sides)
+                    && is_repairing(after, recovery)
+            }
+            Event::Recovers => !(are_selective(sides) && self.finds_lost(clock, &touched.before)),
+            Event::Opens
+            | Event::Calls { .. }
+            | Event::Drops { .. }
+            | Event::Builds(_)
+            | Event::Sends(_)
+            | Event::Expires(_) => false,
+        }
+    }
+
+    // Whether a segment is sent again though nothing is lost, and it isn't marked.
+    fn uses_rescue(&self, clock: u128, v: &View, plan: &SegmentPlan) -> bool
+        ensures { result ≡ uses_rescue clock v.now plan.now self.now }
+    {
+        goes_again(v, plan) && !self.are_free_at(clock, v, old_part(v, plan))
+    }
+
+    fn rescued_after(&self, clock: u128, event: &Event, before: &View) -> bool
+        ensures { result ≡ rescued_after clock event.now before.now self.now }
+    {
+        match event {
+            Event::Builds(plan) => self.rescued || self.uses_rescue(clock, before, plan),
+            Event::Expires(Timer::Rto) | Event::Recovers => false,
+            Event::Opens
+            | Event::Calls { .. }
+            | Event::Processes { .. }
+            | Event::Drops { .. }
+            | Event::Sends(_)
+            | Event::Expires(Timer::Persist | Timer::Msl2 | Timer::Giveup | Timer::Pto) => {
+                self.rescued
+            }
+        }
+    }
+
     // What is marked after a step.
     fn note_marks(
         &mut self,
         change: SynChange,
-        event: &Event,
-        before: &View,
+        touched: &TouchedEndpoint,
         after: &View,
-        repairs: bool,
+        r: &Reports,
+        oldest: bool,
     ) -> Result<(), OutOfMemory>
         ensures { OnOk result (self.new ≡ record self.old {
-          marks = marks_after change event.now before.now after.now repairs self.old.marks;
+          marks =
+              marks_after change touched.now.event touched.now.before after.now r.now oldest self.old.marks;
         }) }
     {
-        let taken = taken_by(event, before);
+        let taken = taken_by(&touched.event, &touched.before);
         self.marks.remove(taken.from, taken.upto)?;
-        let marked = marked_by(change, event, before, after, repairs);
+        remove_reports(&mut self.marks, r)?;
+        let marked = marked_by(change, &touched.event, after, oldest);
         self.marks.add(marked.from, marked.upto)?;
         self.marks.forget_below(after.snd_una);
         Ok(())
@@ -130,16 +199,30 @@ impl Flight {
     /// What is kept after a step. If memory runs out, it is of no use any more.
     pub(crate) fn note(
         &mut self,
-        change: SynChange,
-        event: &Event,
-        before: &View,
+        moment: u64,
+        clock: u128,
+        seen: &Observation,
+        touched: &TouchedEndpoint,
         after: &View,
     ) -> Result<(), OutOfMemory>
-        ensures { OnOk result (self.new ≡ flight_after change event.now before.now after.now self.old) }
+        ensures { OnOk result (self.new ≡ flight_after moment clock seen.now touched.now after.now self.old) }
     {
-        self.sides = sides_after(change, self.sides);
-        self.recovery = recovery_after(event, after, self.recovery);
-        let repairs = !are_selective(self.sides) && is_repairing(after, self.recovery);
-        self.note_marks(change, event, before, after, repairs)
+        let sides = sides_after(seen.syn_change, self.sides);
+        let recovery = recovery_after(&touched.event, after, self.recovery);
+        let recovers = is_recovering(&touched.before, self.recovery);
+        let r = read_reports(sides, &seen.blocks);
+        let oldest = self.marks_oldest(clock, touched, after, sides, recovery);
+        self.rescued = self.rescued_after(clock, &touched.event, &touched.before);
+        self.note_marks(seen.syn_change, touched, after, &r, oldest)?;
+        let now = Now {
+            moment,
+            clock,
+            recovers,
+        };
+        self.board
+            .note(now, number_built(seen.built_change), touched, after, &r)?;
+        self.sides = sides;
+        self.recovery = recovery;
+        Ok(())
     }
 }

@@ -1,6 +1,6 @@
 //! What is kept of all endpoints, what it refuses, and what is kept after a step.
 
-ghost use Rattle.std.specs.Prelude.{◌≡◌, None, nat_eq, unwrap_or, OnOk, IfOk};
+ghost use Rattle.std.specs.Prelude.{◌≡◌, ◌+◌, None, nat_eq, unwrap_or, OnOk, IfOk};
 ghost use Rattle.std.specs.Map.{lookup};
 ghost use Rattle.indexmap.specs.IndexMap.{insert_entry};
 ghost use Rattle.spec_network.specs.Tables.{on, pick};
@@ -9,8 +9,9 @@ ghost use Rattle.spec_flights.specs.Flights.{broken_at, flight_after, flight_at,
 ghost use Rattle.spec_flights.specs.Flights.{judges, refusal, start, unflown};
 
 use crate::flight::Flight;
+use crate::standing::Standing;
 use case_forms::{Header, Host, Judged, OutOfMemory};
-use spec_duties::{Observation, SynChange, TouchedEndpoint, View};
+use spec_duties::{Observation, TouchedEndpoint, View};
 use std::alloc::Global;
 use std::marker::Model;
 use std::mem::replace;
@@ -55,15 +56,17 @@ impl Tables {
     fn note(
         &mut self,
         alloc: Global,
-        change: SynChange,
+        now: Instant,
+        seen: &Observation,
         touched: &TouchedEndpoint,
         after: &View,
     ) -> Result<(), OutOfMemory>
-        ensures { OnOk result (self.new ≡ flights_touched after.now change self.old touched.now) }
+        ensures { OnOk result (self.new
+            ≡ flights_touched now.moment now.clock seen.now after.now self.old touched.now) }
     {
         match touched.host {
-            Host::Zero => note_in(&mut self.zero, alloc, change, touched, after),
-            Host::One => note_in(&mut self.one, alloc, change, touched, after),
+            Host::Zero => note_in(&mut self.zero, alloc, now, seen, touched, after),
+            Host::One => note_in(&mut self.one, alloc, now, seen, touched, after),
         }
     }
 }
@@ -84,16 +87,17 @@ fn take_from(table: &mut Table<Flight>, alloc: Global, place: u32) -> Flight
 fn note_in(
     table: &mut Table<Flight>,
     alloc: Global,
-    change: SynChange,
+    now: Instant,
+    seen: &Observation,
     touched: &TouchedEndpoint,
     after: &View,
 ) -> Result<(), OutOfMemory>
     ensures { OnOk result (table.new.entries ≡ insert_entry nat_eq table.old.entries touched.now.place
-        (flight_after change touched.now.event touched.now.before after.now
+        (flight_after now.moment now.clock seen.now touched.now after.now
         (unwrap_or (lookup (nat_eq touched.now.place) table.old.entries) unflown))) }
 {
     let mut flight = take_from(table, alloc, touched.place);
-    flight.note(change, &touched.event, &touched.before, after)?;
+    flight.note(now.moment, now.clock, seen, touched, after)?;
     table.insert(u64::from(touched.place), flight)
 }
 
@@ -111,6 +115,20 @@ impl Model for Flights {
     ghost Value = { Flights };
 
     ghost view = { λ a. option_map_or (λ tables. tables.value) a.tables start };
+}
+
+// A moment in microseconds, and the same with how far a clock may be wrong.
+#[derive(Clone, Copy)]
+struct Instant {
+    moment: u64,
+    clock: u128,
+}
+
+// A moment, and how far a clock may be wrong.
+fn clock_at(header: &Header, moment: u64) -> u128
+    ensures { result ≡ moment + header.now.grain }
+{
+    u128::from(moment) + u128::from(header.grain)
 }
 
 fn judges(header: &Header) -> bool
@@ -135,30 +153,48 @@ impl Flights {
     }
 
     // The rule that a step breaks at an endpoint.
-    fn broken_by(&self, touched: &TouchedEndpoint) -> Option<Rule>
-        ensures { result ≡ broken_at touched.now.event touched.now.before
+    fn broken_by(&self, clock: u128, touched: &TouchedEndpoint) -> Option<Rule>
+        ensures { result ≡ broken_at clock touched.now.event touched.now.before
             (flight_at self.now touched.now.host touched.now.place) }
     {
         if let Some(tables) = &self.tables {
             if let Some(flight) = tables.get(touched.host).get(u64::from(touched.place)) {
-                return flight.broken_at(&touched.event, &touched.before);
+                return flight.broken_at(clock, &touched.event, &touched.before);
             }
         }
-        Flight::new(self.alloc).broken_at(&touched.event, &touched.before)
+        Flight::new(self.alloc).broken_at(clock, &touched.event, &touched.before)
     }
 
-    /// The rule that a step breaks beside those of the model. None: it breaks none.
+    /// The rule that a step at this moment, in microseconds, breaks beside those of the model. None: it breaks none.
     #[inline(always)]
-    pub fn refusal(&self, header: &Header, seen: &Observation) -> Option<Rule>
-        ensures { result ≡ refusal header.now self.now seen.now }
+    pub fn refusal(&self, header: &Header, moment: u64, seen: &Observation) -> Option<Rule>
+        ensures { result ≡ refusal header.now moment self.now seen.now }
     {
         if !judges(header) {
             return None;
         }
         match &seen.touched {
-            Some(touched) => self.broken_by(touched),
+            Some(touched) => self.broken_by(clock_at(header, moment), touched),
             None => None,
         }
+    }
+
+    /// What an endpoint knows of losses at a step that is refused at this moment, in microseconds. None: the step isn't
+    /// refused for them, or one of the two SYNs didn't permit selective acknowledgments.
+    pub fn standing(
+        &self,
+        header: &Header,
+        moment: u64,
+        touched: &TouchedEndpoint,
+    ) -> Option<Standing> {
+        if !judges(header) {
+            return None;
+        }
+        let Some(tables) = &self.tables else {
+            return None;
+        };
+        let flight = tables.get(touched.host).get(u64::from(touched.place))?;
+        flight.standing(clock_at(header, moment), &touched.event, &touched.before)
     }
 
     // The tables, taken out, or new ones.
@@ -173,35 +209,41 @@ impl Flights {
 
     fn note_touched(
         &mut self,
-        change: SynChange,
+        now: Instant,
+        seen: &Observation,
         touched: &TouchedEndpoint,
         after: &View,
     ) -> Result<(), OutOfMemory>
-        ensures { OnOk result (self.new ≡ flights_touched after.now change self.old touched.now) }
+        ensures { OnOk result (self.new
+            ≡ flights_touched now.moment now.clock seen.now after.now self.old touched.now) }
     {
         let alloc = self.alloc;
         let mut tables = self.take()?;
-        tables.note(alloc, change, touched, after)?;
+        tables.note(alloc, now, seen, touched, after)?;
         self.tables = Some(tables);
         Ok(())
     }
 
-    /// Notes a step, if the endpoint that it touches is then seen like this. In versions 1 to 5 nothing is noted. If
-    /// memory runs out, nothing of it is of use any more.
+    /// Notes a step at this moment, in microseconds, if the endpoint that it touches is then seen like this. In
+    /// versions 1 to 5 nothing is noted. If memory runs out, nothing of it is of use any more.
     #[inline(always)]
     pub fn note(
         &mut self,
         header: &Header,
+        moment: u64,
         seen: &Observation,
         after: &View,
     ) -> Result<(), OutOfMemory>
-        ensures { OnOk result (self.new ≡ flights_after header.now after.now seen.now self.old) }
+        ensures { OnOk result (self.new ≡ flights_after header.now moment after.now seen.now self.old) }
     {
         if !header.version.says_sender() {
             return Ok(());
         }
         match &seen.touched {
-            Some(touched) => self.note_touched(seen.syn_change, touched, after),
+            Some(touched) => {
+                let clock = clock_at(header, moment);
+                self.note_touched(Instant { moment, clock }, seen, touched, after)
+            }
             None => Ok(()),
         }
     }

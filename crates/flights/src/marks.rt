@@ -3,20 +3,17 @@
 ghost use Rattle.std.specs.Prelude.{◌≡◌};
 ghost use Rattle.spec_tcp.specs.Makes.Payload.{making_length};
 ghost use Rattle.spec_duties.specs.Strict.{is_fin_alone};
-ghost use Rattle.spec_flights.specs.Marks.{marked_by, marked_by_event, no_positions, old_part, oldest_segment};
-ghost use Rattle.spec_flights.specs.Marks.{opens_probed, outstanding, own_syn, taken_by};
+ghost use Rattle.spec_flights.specs.Marks.{marked_by, marked_by_event, old_part, oldest_segment, opens_probed};
+ghost use Rattle.spec_flights.specs.Marks.{outstanding, own_syn, taken_by};
+ghost use Rattle.spec_flights.specs.Scoreboard.{stretch_built};
 
+use crate::delivered::no_positions;
 use case_forms::{SegmentPlan, Timer};
 use spec_duties::{Event, SynChange, View};
 use spec_flights::Stretch;
 
-fn no_positions() -> Stretch
-    ensures { result ≡ no_positions }
-{
-    Stretch { from: 0, upto: 0 }
-}
-
-fn outstanding(v: &View) -> Stretch
+/// All that is outstanding.
+pub(crate) fn outstanding(v: &View) -> Stretch
     ensures { result ≡ outstanding v.now }
 {
     Stretch {
@@ -43,50 +40,43 @@ fn own_syn(v: &View) -> Stretch
     }
 }
 
-fn opens_probed(before: &View, after: &View) -> bool
+/// Whether a window above 0 comes while the persist timer runs.
+pub(crate) fn opens_probed(before: &View, after: &View) -> bool
     ensures { result ≡ opens_probed before.now after.now }
 {
     before.timers.persist_armed.is_some() && 0 < after.snd_wnd
 }
 
-fn marked_by_event(event: &Event, before: &View, after: &View, repairs: bool) -> Stretch
-    ensures { result ≡ marked_by_event event.now before.now after.now repairs }
+fn marked_by_event(event: &Event, after: &View, oldest: bool) -> Stretch
+    ensures { result ≡ marked_by_event event.now after.now oldest }
 {
     match event {
-        Event::Expires(Timer::Rto | Timer::Persist) => outstanding(after),
-        Event::Recovers => oldest_segment(after),
-        Event::Processes { .. } => {
-            if opens_probed(before, after) {
-                outstanding(after)
-            } else if before.snd_una < after.snd_una && repairs {
+        Event::Expires(Timer::Rto) => outstanding(after),
+        Event::Opens
+        | Event::Calls { .. }
+        | Event::Processes { .. }
+        | Event::Drops { .. }
+        | Event::Builds(_)
+        | Event::Sends(_)
+        | Event::Expires(Timer::Persist | Timer::Msl2 | Timer::Giveup | Timer::Pto)
+        | Event::Recovers => {
+            if oldest {
                 oldest_segment(after)
             } else {
                 no_positions()
             }
         }
-        Event::Opens
-        | Event::Calls { .. }
-        | Event::Drops { .. }
-        | Event::Builds(_)
-        | Event::Sends(_)
-        | Event::Expires(Timer::Msl2 | Timer::Giveup | Timer::Pto) => no_positions(),
     }
 }
 
-/// Which positions a step marks. `repairs`: the endpoint doesn't acknowledge selectively, and is then in fast recovery.
-pub(crate) fn marked_by(
-    change: SynChange,
-    event: &Event,
-    before: &View,
-    after: &View,
-    repairs: bool,
-) -> Stretch
-    ensures { result ≡ marked_by change event.now before.now after.now repairs }
+/// Which positions a step marks. `oldest`: it marks the first segment.
+pub(crate) fn marked_by(change: SynChange, event: &Event, after: &View, oldest: bool) -> Stretch
+    ensures { result ≡ marked_by change event.now after.now oldest }
 {
     match change {
         SynChange::Takes { alone: true, .. } | SynChange::ComesAgain => own_syn(after),
         SynChange::Nothing | SynChange::Sends { .. } | SynChange::Takes { alone: false, .. } => {
-            marked_by_event(event, before, after, repairs)
+            marked_by_event(event, after, oldest)
         }
     }
 }
@@ -134,5 +124,21 @@ pub(crate) fn taken_by(event: &Event, before: &View) -> Stretch
         | Event::Sends(_)
         | Event::Expires(_)
         | Event::Recovers => no_positions(),
+    }
+}
+
+/// The positions that a segment builds anew, whether they were sent before or not.
+pub(crate) fn stretch_built(plan: &SegmentPlan, before: &View, after: &View) -> Stretch
+    ensures { result ≡ stretch_built plan.now before.now after.now }
+{
+    if is_fin_alone(plan, before) {
+        return no_positions();
+    }
+    Stretch {
+        from: plan.pos,
+        upto: plan
+            .pos
+            .saturating_add(making_length(plan))
+            .min(after.snd_max),
     }
 }

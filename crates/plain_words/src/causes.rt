@@ -11,6 +11,8 @@ pub(crate) const COARSE_CLOCK: &str = "the stack's clock is coarser than `grain`
 pub(crate) const REWRITTEN: &str =
     "a middlebox or a checksum offload rewrote the segment between the two captures";
 
+const LOST_ACK: &str = "the capture lost an acknowledgment";
+
 pub(crate) const SMALL_SLACK: &str =
     "`slack` is smaller than the delay between the capture and the stack";
 
@@ -104,6 +106,19 @@ pub enum Known {
     Msl2Early,
     /// Fast recovery begins with nothing outstanding, at the level `none`.
     NothingOutstanding,
+    /// Both SYNs permitted SACK, and the peer reported the data that goes again.
+    Reported,
+    /// Both SYNs permitted SACK, and the data went again before in this recovery. Nothing built later was delivered.
+    SentTwice,
+    /// Both SYNs permitted SACK, and something built later was delivered, but the data doesn't count as lost yet.
+    NotLostYet,
+    /// Both SYNs permitted SACK, no recovery is going on, and the segment is the last one. Nothing built later was
+    /// delivered.
+    TailProbe,
+    /// Both SYNs permitted SACK, and nothing that was built after the data was delivered.
+    NothingLater,
+    /// Both SYNs permitted SACK, and fast recovery begins before the last recovery ended.
+    StillRecovers,
 }
 
 impl Known {
@@ -202,6 +217,18 @@ sample",
             Known::PersistEarly => "the stack probes a closed window before its timeout",
             Known::Msl2Early => "TIME-WAIT is shorter than 2 `msl`",
             Known::NothingOutstanding => "everything was already acknowledged",
+            Known::Reported => "the stack sends again what SACK blocks report as received",
+            Known::SentTwice =>
+                "the stack sends data twice for one loss, or the trace lacks the expiry (a `T` line)",
+            Known::NotLostYet =>
+                "the stack counts data as lost earlier than RFC 6675 and RFC 8985 do",
+            Known::TailProbe =>
+                "the stack sends a tail loss probe (RFC 8985, 7), which the model doesn't permit, or the trace \
+lacks the expiry (a `T` line)",
+            Known::NothingLater =>
+                "the stack retransmits data that isn't lost, or the trace lacks the expiry (a `T` line)",
+            Known::StillRecovers =>
+                "the stack begins fast recovery before the last recovery ends (RFC 6675, 5)",
         }
     }
 
@@ -216,6 +243,9 @@ sample",
             Known::NeverSent => "the capture lost the segment",
             Known::NotRestarted | Known::NotDoubled | Known::Unsampled => COARSE_CLOCK,
             Known::BelowMinimum | Known::PersistEarly | Known::Msl2Early => COARSE_CLOCK,
+            Known::Reported => "the stack processed the SACK blocks later than the capture shows",
+            Known::SentTwice | Known::TailProbe | Known::NothingLater => LOST_ACK,
+            Known::NotLostYet => COARSE_CLOCK,
             _ => "",
         }
     }

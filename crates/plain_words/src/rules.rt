@@ -196,6 +196,11 @@ line)",
                 Known::OutstandingAtNone,
                 Known::SynAtNone,
                 Known::NotRestarted,
+                Known::Reported,
+                Known::SentTwice,
+                Known::NotLostYet,
+                Known::TailProbe,
+                Known::NothingLater,
             ],
             rfc: "9293, 3.8.1, 3.8.4; 6298, 5; 5681, 3.2",
             ..PLAIN
@@ -329,8 +334,14 @@ too early",
         },
         Rule::Recovery => &Meaning {
             refused: "fast recovery begins where it may not",
-            usual: "the stack began after fewer than three duplicate acknowledgments (SACK, early retransmit)",
-            special: &[Known::NothingOutstanding, Known::IsUndone],
+            usual: "the stack began after fewer than three duplicate acknowledgments (early retransmit, or SACK before \
+version 6)",
+            special: &[
+                Known::NothingOutstanding,
+                Known::IsUndone,
+                Known::StillRecovers,
+                Known::NotLostYet,
+            ],
             rfc: "5681, 2, 3.2 (steps 2 to 4); 4015, 3.2",
             ..PLAIN
         },

@@ -7,7 +7,8 @@
 //! - `texts`: the two texts of a case, and their lines
 //! - `case`: the values of a case and its verdict; where the verdict refuses it
 //! - `replay`: the world and its duties before and after each step; `debts`: what endpoints owe, and what is late;
-//!   `unsent`: segments that were built and are late; `touched`: the endpoint that a step touches
+//!   `unsent`: segments that were built and are late; `touched`: the endpoint that a step touches,
+//!   and what it knows of losses
 //! - `refusal`: what a verdict refuses, as values; `reasons`: what two rules of sending compare
 //! - `unused_lines`: the lines of a trace, which are read as steps use them
 //! - `calls`: what a call names

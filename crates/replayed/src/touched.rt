@@ -1,8 +1,9 @@
-//! The endpoint that a step touches, whose duties it compares.
+//! The endpoint that a step touches, whose duties it compares, and what that endpoint knows of losses.
 
 use crate::replay::{Replay, has_room, is_small};
 use case_forms::{Step, TakenLine};
 use endpoint_state::World;
+use flights::Standing;
 use spec_duties::TouchedEndpoint;
 use spec_step::{Act, Hidden, act_of};
 use spec_tcp::EndpointId;
@@ -18,6 +19,21 @@ impl Replay<'_> {
                 touched_by_line(self.world(), step.moment, &taken)
             }
             Act::Hidden(hidden) => touched_by_other(self.world(), step.moment, &hidden),
+        }
+    }
+
+    /// In version 6, what the endpoint that a step touches knows of losses, if the step is refused for them. None: it
+    /// isn't, or one of the two SYNs didn't permit selective acknowledgments.
+    pub fn standing(&self, step: &Step) -> Option<Standing> {
+        match act_of(&step.label) {
+            Act::Line(_) => None,
+            Act::Hidden(hidden) => {
+                let touched = seen_by_other(self.world(), step.moment, &hidden)?;
+                let header = self.world().header();
+                self.watched
+                    .flights()
+                    .standing(header, step.moment, &touched)
+            }
         }
     }
 }
@@ -36,10 +52,15 @@ pub(crate) fn touched_by_other(
     moment: u64,
     step: &Hidden<'_>,
 ) -> Option<EndpointId> {
+    born(world, seen_by_other(world, moment, step))
+}
+
+// The same, with what the step does. The endpoint may be one that it creates.
+fn seen_by_other(world: &World, moment: u64, step: &Hidden<'_>) -> Option<TouchedEndpoint> {
     if !has_room(world) || !is_small(step) {
         return None;
     }
-    born(world, observe_hidden(world, moment, step).touched)
+    observe_hidden(world, moment, step).touched
 }
 
 // What is touched, if it exists before the step.

@@ -1,12 +1,14 @@
 -- The segment or the first fault of bytes, found from left to right.
-use Rattle.std.specs.Prelude.{◌≡◌, ◌≢◌, ◌↔◌, ℕ, zero, suc, ◌+◌, ◌-◌, ◌==◌, Bool, false, ◌&&◌, ◌||◌, nat_le, nat_lt}
-use Rattle.std.specs.Prelude.{if◌then◌else◌}
+use Rattle.std.specs.Prelude.{◌≡◌, ◌≢◌, ◌↔◌, ℕ, zero, suc, ◌+◌, ◌-◌, ◌/◌, ◌%◌, ◌==◌, Bool}
+use Rattle.std.specs.Prelude.{false, ◌&&◌, ◌||◌, nat_le, nat_lt, if◌then◌else◌}
 use Rattle.std.specs.List.{list_any}
 use Rattle.std.specs.Option.{option_map_or}
-use Rattle.std.specs.Prelude.{List, [], ◌∷◌, length, take, drop, Option, Some, None, Result, Ok, Err}
+use Rattle.std.specs.Prelude.{List, [], ◌∷◌, ◌++◌, length, take, drop, Option, Some, None, Result, Ok, Err}
+use Rattle.byteorder.specs.Endian.{big_from}
 use Rattle.segment.specs.declared.fault.SegFault.{SegFault}
 use Rattle.segment.specs.declared.fault.SegFault.TheVariants.{Short, Offset, OptionLength, TooLong, OutOfMemory}
 use Rattle.segment.specs.declared.fields.Segment.{Segment}
+use Rattle.segment.specs.declared.options.SackBlock.{SackBlock}
 use Rattle.segment.specs.Options.{Item, padding, option}
 use Rattle.segment.specs.Layout.{IsSegment, IsFault, max_len, header_len, options_of, fields_of}
 
@@ -44,6 +46,33 @@ is_sack_permission (option kind content) = kind == 4 && length content == 0
 -- the options of a segment's bytes permit them
 abbrev pub permits_sack : List ℕ → Bool
 permits_sack bytes = option_map_or (list_any is_sack_permission) (items_of (options_of bytes)) false
+
+-- the block in the 8 bytes from this place on: the number of its first byte, and that after its last one (RFC 2018, 3)
+abbrev pub block_at : ℕ → List ℕ → SackBlock
+block_at place content = record {
+  left = record { 0 = big_from place 4 content };
+  right = record { 0 = big_from (place + 4) 4 content };
+}
+
+-- so many blocks, from this place on
+abbrev pub blocks_from : (place count : ℕ) → List ℕ → List SackBlock
+blocks_from place zero content = []
+blocks_from place (suc count) content = block_at place content ∷ blocks_from (place + 8) count content
+
+-- kind 5 with a multiple of 8 bytes of content carries blocks
+abbrev pub item_blocks : Item → List SackBlock
+item_blocks padding = []
+item_blocks (option kind content) =
+    if kind == 5 && length content % 8 == 0 then blocks_from 0 (length content / 8) content else []
+
+-- those of all items
+abbrev pub blocks_among : List Item → List SackBlock
+blocks_among [] = []
+blocks_among (item ∷ items) = item_blocks item ++ blocks_among items
+
+-- the blocks that the options of a segment's bytes carry
+abbrev pub sack_blocks : List ℕ → List SackBlock
+sack_blocks bytes = option_map_or blocks_among (items_of (options_of bytes)) []
 
 -- the segment with these items, or a fault of the items or of the length
 abbrev pub with_items : List ℕ → Option (List Item) → Result Segment SegFault

@@ -25,8 +25,8 @@ fn u16_at(bytes: &[u8], place: usize) -> u16
     BigEndian::read_u16(&bytes[place..])
 }
 
-// The number in the four bytes from a place on.
-fn u32_at(bytes: &[u8], place: usize) -> u32
+/// The number in the four bytes from a place on.
+pub(crate) fn u32_at(bytes: &[u8], place: usize) -> u32
     requires { place + 4 ≤ length bytes.now }
     ensures { result ≡ big_from place 4 bytes.now }
 {

@@ -9,6 +9,7 @@
 //! - `Segment`: a segment, field by field; `Flag`: its flags, by name; `Bytes`: owned bytes
 //! - `decode`: the segment that bytes encode; `SegFault`: why they encode none
 //! - `permits_sack`: whether a segment's options permit selective acknowledgments
+//! - `sack_block`: the blocks of a selective acknowledgment that a segment carries; `SackBlock`: one of them
 //! - `encode`: the bytes of a segment; `EncFault`: why it can't be encoded
 //! - `OutOfMemory`: memory ran out
 //!
@@ -20,7 +21,7 @@
 //! Private modules:
 //!
 //! - `fields`, `flag`, `bytes`, `fault`: the types above
-//! - `options`: the items of a list of options, and the MSS and the shift that they carry
+//! - `options`: the items of a list of options, and the MSS, the shift and the blocks that they carry
 //! - `decoder`: `decode`; `encoder`: `encode`
 #![tactic(auto)]
 
@@ -38,7 +39,7 @@ pub use encoder::encode;
 pub use fault::{EncFault, SegFault};
 pub use fields::Segment;
 pub use flag::Flag;
-pub use options::permits_sack;
+pub use options::{SackBlock, permits_sack, sack_block};
 
 /// Memory ran out. Nothing was changed.
 pub type OutOfMemory = std::alloc::AllocError;

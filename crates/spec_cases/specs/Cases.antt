@@ -76,9 +76,9 @@ with_refusal (Some rule) rules = map (with_broken rule) rules
 -- recovery, can
 abbrev pub refused_at : Header → (moment : ℕ) → Known → Host → HostStep tcp_shape → Option Rule
 refused_at h moment k host (network.Makes m) =
-    refusal h k.flights (observe h moment k.model (network.At host (network.Makes m)))
+    refusal h moment k.flights (observe h moment k.model (network.At host (network.Makes m)))
 refused_at h moment k host (network.Does x) =
-    refusal h k.flights (observe h moment k.model (network.At host (network.Does x)))
+    refusal h moment k.flights (observe h moment k.model (network.At host (network.Does x)))
 refused_at h moment k host d = None
 
 abbrev pub refused_by : Header → (moment : ℕ) → Known → Step tcp_shape → Option Rule
@@ -94,14 +94,14 @@ abbrev pub case_rules : Header → (moment : ℕ) → Known → Step tcp_shape �
 case_rules h moment k step = model_rules h moment k step ++ watch_rules h moment k step
 
 -- what is kept of data in flight after it, in that world
-abbrev pub flown : Header → (after : World tcp_shape) → Observation → Flights → Flights
-flown h w s fs = flights_after h (view_in w s.touched) s fs
+abbrev pub flown : Header → (moment : ℕ) → (after : World tcp_shape) → Observation → Flights → Flights
+flown h moment w s fs = flights_after h moment (view_in w s.touched) s fs
 
 -- what is known after it
 abbrev pub known_after : Header → (moment : ℕ) → Known → Step tcp_shape → Known
 known_after h moment k step = record {
   model = steps.after (tcp h) moment k.model step;
-  flights = flown h (steps.after (tcp h) moment k.model step) (observe h moment k.model step) k.flights;
+  flights = flown h moment (steps.after (tcp h) moment k.model step) (observe h moment k.model step) k.flights;
   duties =
       noted_by h moment (steps.after (tcp h) moment k.model step) (observe h moment k.model step) k.duties;
 }

@@ -12,6 +12,7 @@ pub mod Excess
 pub mod Credits
 pub mod Owed
 pub mod Sampling
+pub mod Blocks
 pub mod Strict
 pub mod Dropped
 pub mod Answering

@@ -71,6 +71,23 @@ pub enum SynChange {
     ComesAgain,
 }
 
+/// Positions that the peer reported to have: from `from` to before `upto`.
+#[derive(Clone, Copy)]
+pub struct Block {
+    pub from: u64,
+    pub upto: u64,
+}
+
+/// The blocks of a selective acknowledgment, each in its place; a list of options has room for no more (RFC 2018, 3).
+/// `None`: there is none in that place, or it reports nothing that is outstanding.
+#[derive(Clone, Copy)]
+pub struct Blocks {
+    pub first: Option<Block>,
+    pub second: Option<Block>,
+    pub third: Option<Block>,
+    pub fourth: Option<Block>,
+}
+
 /// A segment that is dropped.
 #[derive(Clone, Copy)]
 pub struct Dropping {
@@ -108,6 +125,8 @@ pub struct Observation {
     /// Whether the endpoint earns a credit by it, with which it may send an acknowledgment.
     pub earns: bool,
     pub syn_change: SynChange,
+    /// Which positions the segment that is processed reports as received, by its blocks. Versions 1 to 5 don't ask.
+    pub blocks: Blocks,
     /// What it does to the call of a thread, and to a socket. Versions 1 to 5 don't ask.
     pub call_change: CallChange,
     pub socket_change: SocketChange,

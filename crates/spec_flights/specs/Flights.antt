@@ -1,39 +1,60 @@
 -- What is kept of data in flight, what it refuses, and what is kept after a step.
-use Rattle.std.specs.Prelude.{ℕ, nat_eq, nat_lt, Bool, not, ◌&&◌, ◌||◌, if◌then◌else◌, List, []}
-use Rattle.std.specs.Prelude.{Option, None, Some, unwrap_or}
-use Rattle.std.specs.FinSet.{from_list}
+use Rattle.std.specs.Prelude.{ℕ, suc, ◌+◌, nat_eq, nat_le, nat_lt, Bool, true, false, not, ◌&&◌, ◌||◌, if◌then◌else◌}
+use Rattle.std.specs.Prelude.{List, [], Option, None, Some, unwrap_or}
+use Rattle.std.specs.FinSet.{contains, from_list}
+use Rattle.std.specs.List.{list_all}
 use Rattle.std.specs.Map.{lookup}
+use Rattle.std.specs.Option.{option_map_or}
+use Rattle.std.specs.Ordering.{nat_cmp}
 use Rattle.indexmap.specs.IndexMap.{insert_entry}
+use Rattle.case_forms.specs.States.{is_syn_sent}
 use Rattle.case_forms.specs.Versions.{says_sender}
 use Rattle.case_forms.specs.declared.calls.Host.{Host}
 use Rattle.case_forms.specs.declared.steps.SegmentPlan.{SegmentPlan}
+use Rattle.case_forms.specs.declared.timer.Timer.TheVariants.{Rto, Persist}
 use Rattle.case_forms.specs.declared.trace.Header.{Header}
 use Rattle.verdict.specs.declared.rule.Rule.{Rule}
 use Rattle.verdict.specs.declared.rule.Rule.TheVariants as rules
-use Rattle.streams.specs.Ranges.{covers}
+use Rattle.streams.specs.Flying.{flying}
+use Rattle.streams.specs.Pieces.{known_from}
+use Rattle.streams.specs.Ranges.{covers, meets, positions}
 use Rattle.spec_network.specs.Tables.{Both, on, pick, with_host}
 use Rattle.spec_tcp.specs.Makes.Payload.{making_length}
-use Rattle.spec_duties.specs.declared.events.Event.{Event}
-use Rattle.spec_duties.specs.declared.events.Event.TheVariants.{Builds, Recovers}
-use Rattle.spec_duties.specs.declared.observations.Observation.{Observation}
-use Rattle.spec_duties.specs.declared.observations.SynChange.{SynChange}
-use Rattle.spec_duties.specs.declared.observations.TouchedEndpoint.{TouchedEndpoint}
+use Rattle.spec_duties.specs.Events.{acknowledges_more}
 use Rattle.spec_duties.specs.Resent.{judges_repeats}
 use Rattle.spec_duties.specs.Strict.{is_fin_alone}
+use Rattle.spec_duties.specs.declared.events.Event.{Event}
+use Rattle.spec_duties.specs.declared.events.Event.TheVariants.{Builds, Expires, Processes, Recovers}
+use Rattle.spec_duties.specs.declared.observations.BuiltChange.{BuiltChange}
+use Rattle.spec_duties.specs.declared.observations.BuiltChange.TheVariants as built_change
+use Rattle.spec_duties.specs.declared.observations.Observation.{Observation}
+use Rattle.spec_duties.specs.declared.observations.TouchedEndpoint.{TouchedEndpoint}
 use Rattle.spec_duties.specs.declared.views.View.{View}
-use Rattle.spec_flights.specs.Marks.{marks_after, old_part}
+use Rattle.spec_flights.specs.Delivered.{Reports, heard, read_reports}
+use Rattle.spec_flights.specs.Late.{has_below, resent_below, settled}
+use Rattle.spec_flights.specs.Marks.{marks_after, old_part, opens_probed}
 use Rattle.spec_flights.specs.Recovering.{Recovery, is_recovering, is_repairing, none_begun, recovery_after}
+use Rattle.spec_flights.specs.Scoreboard.{Scoreboard, nothing_built, stretch_built, with_built, with_given_up}
 use Rattle.spec_flights.specs.Sides.{Sides, are_selective, neither, sides_after}
+use Rattle.spec_flights.specs.Stretches.{Stretch}
 
--- what is kept of an endpoint: what the two SYNs permit, from which loss it recovers, and which positions are marked,
--- in order
+-- what is kept of an endpoint: what the two SYNs permit, from which loss it recovers, which positions are marked, in
+-- order, what is known of each outstanding one, and whether it made use of a rescue since the recovery began
 pub record Flight : Type 0 where
   pub sides : Sides
   pub recovery : Recovery
   pub marks : List ℕ
+  pub board : Scoreboard
+  pub rescued : Bool
 
 abbrev pub unflown : Flight
-unflown = record { sides = neither; recovery = none_begun; marks = [] }
+unflown = record {
+  sides = neither;
+  recovery = none_begun;
+  marks = [];
+  board = nothing_built;
+  rescued = false;
+}
 
 -- of all endpoints of both hosts, by their places
 abbrev pub Flights : Type 0
@@ -45,62 +66,157 @@ start = record { zero = []; one = [] }
 abbrev pub flight_at : Flights → Host → (place : ℕ) → Flight
 flight_at fs host place = unwrap_or (lookup (nat_eq place) (pick fs host)) unflown
 
--- ---- what is refused
+-- ---- what is refused; `clock`: the moment, and how far a clock may be wrong
 
--- each position that is sent again is marked. While it recovers, an endpoint that acknowledges selectively may choose
--- which data goes again, by what its peer told it; that choice isn't judged
-abbrev pub may_go_again : View → SegmentPlan → Flight → Bool
-may_go_again v m f =
-    covers (from_list f.marks) (old_part v m).from (old_part v m).upto
-    || are_selective f.sides && is_recovering v f.recovery
+-- the endpoint recovers, and may choose by blocks what it sends again (RFC 6675, NextSeg, 1)
+abbrev pub recovers_selectively : View → Flight → Bool
+recovers_selectively v f = are_selective f.sides && is_recovering v f.recovery
+
+-- what was built under a number below this one may be sent again
+abbrev pub free_below : (clock : ℕ) → View → Flight → ℕ
+free_below clock v f =
+    if recovers_selectively v f then resent_below true clock f.board else suc f.board.given_up
+
+-- a position is marked. After fast recovery began, what the peer reported needn't be sent again; after a timeout it
+-- counts as if the peer had reported nothing (RFC 2018, 8)
+abbrev pub is_marked : Flight → (position : ℕ) → Bool
+is_marked f position =
+    contains {R = nat_cmp} (from_list f.marks) position
+    && not (f.recovery.is_fast && contains {R = nat_cmp} (from_list f.board.told) position)
+
+-- it may be sent again
+abbrev pub is_free : (below : ℕ) → Flight → (position : ℕ) → Bool
+is_free below f position =
+    is_marked f position
+    || option_map_or (λ x. nat_lt x.number below) (flying f.board.known (from_list f.board.told) position) false
+
+abbrev pub are_free : (below : ℕ) → Flight → Stretch → Bool
+are_free below f old = list_all (is_free below f) (positions old.from old.upto)
+
+-- nothing new may be sent: all that was accepted was, or as much as the window permits
+abbrev pub sends_nothing_new : View → Bool
+sends_nothing_new v = nat_le v.end v.snd_max || nat_le (v.snd_una + v.snd_wnd) v.snd_max
+
+-- once in a fast recovery, what is last in flight may go again though nothing is lost (RFC 6675, NextSeg, 4)
+abbrev pub is_rescue : (clock : ℕ) → View → Flight → (old : Stretch) → Bool
+is_rescue clock v f old =
+    are_selective f.sides && is_repairing v f.recovery && not f.rescued && sends_nothing_new v
+    && not (meets (from_list f.board.told) old.from old.upto)
+    && covers (from_list f.board.told) old.upto v.snd_max
+    && not (has_below (resent_below true clock f.board) v f.board)
 
 -- it holds positions that were sent before, and isn't a FIN without bytes
 abbrev pub goes_again : View → SegmentPlan → Bool
 goes_again v m = nat_lt 0 (making_length m) && nat_lt m.pos v.snd_max && not (is_fin_alone m v)
 
+abbrev pub may_go_again : (clock : ℕ) → View → Flight → (old : Stretch) → Bool
+may_go_again clock v f old = are_free (free_below clock v f) f old || is_rescue clock v f old
+
+-- something is lost, or given up
+abbrev pub finds_lost : (clock : ℕ) → View → Flight → Bool
+finds_lost clock v f = has_below (resent_below false clock f.board) v f.board
+
 -- fast recovery begins only after three duplicate acknowledgments, and not within it (RFC 5681, 3.2, step 2); where
--- both SYNs permit SACK, not while it recovers (RFC 6675, 5)
-abbrev pub may_begin : View → Flight → Bool
-may_begin v f = nat_lt 2 v.dup && not (if are_selective f.sides then is_recovering v f.recovery else v.fast)
+-- both SYNs permit SACK, also if something is lost, and not while it recovers (RFC 6675, 5; RFC 8985, 6.2)
+abbrev pub may_begin : (clock : ℕ) → View → Flight → Bool
+may_begin clock v f =
+    if are_selective f.sides
+    then not (is_recovering v f.recovery) && (nat_lt 2 v.dup || finds_lost clock v f)
+    else nat_lt 2 v.dup && not v.fast
 
 -- the rule that a step breaks
-abbrev pub broken_at : Event → View → Flight → Option Rule
-broken_at (Builds m) v f = if goes_again v m && not (may_go_again v m f) then Some rules.OldData else None
-broken_at Recovers v f = if may_begin v f then None else Some rules.Recovery
-broken_at event v f = None
+abbrev pub broken_at : (clock : ℕ) → Event → View → Flight → Option Rule
+broken_at clock (Builds m) v f =
+    if goes_again v m && not (may_go_again clock v f (old_part v m)) then Some rules.OldData else None
+broken_at clock Recovers v f = if may_begin clock v f then None else Some rules.Recovery
+broken_at clock event v f = None
 
 -- from version 6 on, the choice of when data goes again is judged here
 abbrev pub judges : Header → Bool
 judges h = says_sender h.version && judges_repeats h.congestion
 
-abbrev pub refusal : Header → Flights → Observation → Option Rule
-refusal h fs s =
-    if judges h then on s.touched None (λ t. broken_at t.event t.before (flight_at fs t.host t.place)) else None
+abbrev pub refusal : Header → (moment : ℕ) → Flights → Observation → Option Rule
+refusal h moment fs s =
+    if judges h
+    then on s.touched None (λ t. broken_at (moment + h.grain) t.event t.before (flight_at fs t.host t.place))
+    else None
 
 -- ---- what is kept after a step
 
+-- in fast recovery, an acknowledgment marks the next segment, unless blocks show what is lost
 abbrev pub repairs_plainly : View → Sides → Recovery → Bool
 repairs_plainly v sides r = not (are_selective sides) && is_repairing v r
 
-abbrev pub marks_in : SynChange → Event → (before after : View) → Sides → Recovery → (marks : List ℕ) → List ℕ
-marks_in change event before after sides r marks =
-    marks_after change event before after (repairs_plainly after sides r) marks
+-- a step marks the first segment
+abbrev pub marks_oldest : (clock : ℕ) → Event → (before after : View) → Sides → Recovery → Flight → Bool
+marks_oldest clock (Processes length rst) before after sides r f =
+    acknowledges_more before after && repairs_plainly after sides r
+marks_oldest clock Recovers before after sides r f = not (are_selective sides && finds_lost clock before f)
+marks_oldest clock event before after sides r f = false
 
-abbrev pub flight_after : SynChange → Event → (before after : View) → Flight → Flight
-flight_after change event before after f = record {
-  sides = sides_after change f.sides;
-  recovery = recovery_after event after f.recovery;
-  marks = marks_in change event before after (sides_after change f.sides) (recovery_after event after f.recovery)
-      f.marks;
+-- the number under which a step builds a segment
+abbrev pub number_built : BuiltChange → ℕ
+number_built (built_change.Builds number) = number
+number_built change = 0
+
+-- what is known of outstanding positions after a segment was processed: a reset shows nothing, nor does what the
+-- endpoint takes before it is open
+abbrev pub board_heard : (moment clock : ℕ) → (recovers rst : Bool) → (before after : View) → Reports → Scoreboard
+    → Scoreboard
+board_heard moment clock recovers rst before after r b =
+    if rst || is_syn_sent before.state then record b { known = known_from after.snd_una b.known }
+    else heard moment before.snd_una after.snd_una r (settled recovers clock b)
+
+abbrev pub board_opened : (before after : View) → Scoreboard → Scoreboard
+board_opened before after b = if opens_probed before after then with_given_up b else b
+
+-- after a step
+abbrev pub board_after : (moment clock : ℕ) → (recovers : Bool) → (number : ℕ) → Event → (before after : View)
+    → Reports → Scoreboard → Scoreboard
+board_after moment clock recovers number (Processes length rst) before after r b =
+    board_opened before after (board_heard moment clock recovers rst before after r b)
+board_after moment clock recovers number (Builds m) before after r b =
+    with_built number moment (stretch_built m before after) (settled recovers clock b)
+board_after moment clock recovers number (Expires Rto) before after r b = with_given_up b
+board_after moment clock recovers number (Expires Persist) before after r b = with_given_up b
+board_after moment clock recovers number Recovers before after r b = settled recovers clock b
+board_after moment clock recovers number event before after r b = b
+
+-- a segment is sent again though nothing is lost, and none of it is marked
+abbrev pub uses_rescue : (clock : ℕ) → View → SegmentPlan → Flight → Bool
+uses_rescue clock v m f = goes_again v m && not (are_free (free_below clock v f) f (old_part v m))
+
+abbrev pub rescued_after : (clock : ℕ) → Event → (before : View) → Flight → Bool
+rescued_after clock (Builds m) before f = f.rescued || uses_rescue clock before m f
+rescued_after clock (Expires Rto) before f = false
+rescued_after clock Recovers before f = false
+rescued_after clock event before f = f.rescued
+
+abbrev pub flight_by : (moment clock : ℕ) → Observation → TouchedEndpoint → (after : View) → Sides → Recovery → Flight
+    → Flight
+flight_by moment clock s t after sides r f = record {
+  sides = sides;
+  recovery = r;
+  marks =
+      marks_after s.syn_change t.event t.before after (read_reports sides s.blocks)
+      (marks_oldest clock t.event t.before after sides r f) f.marks;
+  board =
+      board_after moment clock (is_recovering t.before f.recovery) (number_built s.built_change) t.event t.before after
+      (read_reports sides s.blocks) f.board;
+  rescued = rescued_after clock t.event t.before f;
 }
 
-abbrev pub flights_touched : (after : View) → SynChange → Flights → TouchedEndpoint → Flights
-flights_touched after change fs t =
+abbrev pub flight_after : (moment clock : ℕ) → Observation → TouchedEndpoint → (after : View) → Flight → Flight
+flight_after moment clock s t after f =
+    flight_by moment clock s t after (sides_after s.syn_change f.sides) (recovery_after t.event after f.recovery) f
+
+abbrev pub flights_touched : (moment clock : ℕ) → Observation → (after : View) → Flights → TouchedEndpoint → Flights
+flights_touched moment clock s after fs t =
     with_host fs t.host
     (insert_entry nat_eq (pick fs t.host) t.place
-    (flight_after change t.event t.before after (flight_at fs t.host t.place)))
+    (flight_after moment clock s t after (flight_at fs t.host t.place)))
 
 -- after a step, if its endpoint is then seen like this; nothing is kept in versions 1 to 5
-abbrev pub flights_after : Header → (after : View) → Observation → Flights → Flights
-flights_after h after s fs =
-    if says_sender h.version then on s.touched fs (flights_touched after s.syn_change fs) else fs
+abbrev pub flights_after : Header → (moment : ℕ) → (after : View) → Observation → Flights → Flights
+flights_after h moment after s fs =
+    if says_sender h.version then on s.touched fs (flights_touched moment (moment + h.grain) s after fs) else fs

@@ -2,25 +2,21 @@
 use Rattle.std.specs.Prelude.{ℕ, ◌+◌, nat_lt, min, Bool, true, ◌&&◌, if◌then◌else◌, List, is_some}
 use Rattle.std.specs.FinSet.{difference, from_list, items, union}
 use Rattle.case_forms.specs.declared.steps.SegmentPlan.{SegmentPlan}
-use Rattle.case_forms.specs.declared.timer.Timer.TheVariants.{Rto, Persist}
+use Rattle.case_forms.specs.declared.timer.Timer.TheVariants.{Rto}
 use Rattle.streams.specs.Ranges.{span}
 use Rattle.spec_tcp.specs.Makes.Payload.{making_length}
-use Rattle.spec_duties.specs.Events.{acknowledges_more}
 use Rattle.spec_duties.specs.declared.events.Event.{Event}
-use Rattle.spec_duties.specs.declared.events.Event.TheVariants.{Processes, Builds, Expires, Recovers}
+use Rattle.spec_duties.specs.declared.events.Event.TheVariants.{Builds, Expires}
 use Rattle.spec_duties.specs.declared.observations.SynChange.{SynChange}
 use Rattle.spec_duties.specs.Strict.{is_fin_alone}
 use Rattle.spec_duties.specs.declared.views.View.{View}
 use Rattle.spec_duties.specs.declared.observations.SynChange.TheVariants as syn_change
-pub use Rattle.spec_flights.specs.declared.stretch.Stretch.{Stretch}
-
-abbrev pub no_positions : Stretch
-no_positions = record { from = 0; upto = 0 }
+use Rattle.spec_flights.specs.Delivered.{Reports, without_reports}
+use Rattle.spec_flights.specs.Stretches.{Stretch, no_positions}
 
 -- ---- the reasons
 
--- all that is outstanding: after a timeout (RFC 6298, 5.4), and where the window is closed or opens again (RFC 9293,
--- 3.8.6.1)
+-- all that is outstanding: after a timeout (RFC 6298, 5.4), even what the peer reported (RFC 2018, 8)
 abbrev pub outstanding : View → Stretch
 outstanding v = record { from = v.snd_una; upto = v.snd_max }
 
@@ -36,22 +32,16 @@ own_syn v = record { from = 0; upto = min 1 v.snd_max }
 abbrev pub opens_probed : (before after : View) → Bool
 opens_probed before after = is_some before.timers.persist_armed && nat_lt 0 after.snd_wnd
 
--- what a step marks; `repairs`: it doesn't acknowledge selectively, and is then in fast recovery
-abbrev pub marked_by_event : Event → (before after : View) → (repairs : Bool) → Stretch
-marked_by_event (Expires Rto) before after repairs = outstanding after
-marked_by_event (Expires Persist) before after repairs = outstanding after
-marked_by_event Recovers before after repairs = oldest_segment after
-marked_by_event (Processes length rst) before after repairs =
-    if opens_probed before after then outstanding after
-    else if acknowledges_more before after && repairs then oldest_segment after
-    else no_positions
-marked_by_event event before after repairs = no_positions
+-- what a step marks; `oldest`: it marks the first segment
+abbrev pub marked_by_event : Event → (after : View) → (oldest : Bool) → Stretch
+marked_by_event (Expires Rto) after oldest = outstanding after
+marked_by_event event after oldest = if oldest then oldest_segment after else no_positions
 
 -- the same for a step that takes or drops the SYN of its peer
-abbrev pub marked_by : SynChange → Event → (before after : View) → (repairs : Bool) → Stretch
-marked_by (syn_change.Takes permits true) event before after repairs = own_syn after
-marked_by syn_change.ComesAgain event before after repairs = own_syn after
-marked_by change event before after repairs = marked_by_event event before after repairs
+abbrev pub marked_by : SynChange → Event → (after : View) → (oldest : Bool) → Stretch
+marked_by (syn_change.Takes permits true) event after oldest = own_syn after
+marked_by syn_change.ComesAgain event after oldest = own_syn after
+marked_by change event after oldest = marked_by_event event after oldest
 
 -- ---- sending takes the mark; a FIN without bytes needs none, and takes none (RFC 9293, 3.10.4)
 
@@ -63,11 +53,13 @@ abbrev pub taken_by : Event → View → Stretch
 taken_by (Builds m) before = if is_fin_alone m before then no_positions else old_part before m
 taken_by event before = no_positions
 
--- what is marked after a step, in order; what is acknowledged is not
-abbrev pub marks_after : SynChange → Event → (before after : View) → (repairs : Bool) → (marks : List ℕ) → List ℕ
-marks_after change event before after repairs marks =
+-- what is marked after a step, in order; what is acknowledged is not, nor what blocks report
+abbrev pub marks_after : SynChange → Event → (before after : View) → Reports → (oldest : Bool) → (marks : List ℕ)
+    → List ℕ
+marks_after change event before after r oldest marks =
     let taken : Stretch = taken_by event before in
-    let marked : Stretch = marked_by change event before after repairs in
+    let marked : Stretch = marked_by change event after oldest in
     items
-    (difference (union (difference (from_list marks) (span taken.from taken.upto)) (span marked.from marked.upto))
+    (difference (union (without_reports (difference (from_list marks) (span taken.from taken.upto)) r)
+    (span marked.from marked.upto))
     (span 0 after.snd_una))

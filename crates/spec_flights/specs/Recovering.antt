@@ -1,6 +1,6 @@
 -- An endpoint recovers from a loss until all is acknowledged that was sent when it noticed it: by a timeout, or by
 -- duplicate acknowledgments (RFC 5681, 3.2; RFC 6582, 3.2, `recover`).
-use Rattle.std.specs.Prelude.{ℕ, nat_le, nat_lt, Bool, true, false, ◌&&◌, if◌then◌else◌}
+use Rattle.std.specs.Prelude.{nat_le, nat_lt, Bool, true, false, ◌&&◌, if◌then◌else◌}
 use Rattle.case_forms.specs.declared.timer.Timer.TheVariants.{Rto}
 use Rattle.spec_duties.specs.declared.events.Event.{Event}
 use Rattle.spec_duties.specs.declared.events.Event.TheVariants.{Expires, Recovers}

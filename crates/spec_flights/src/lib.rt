@@ -5,20 +5,28 @@
 //!
 //! This crate has no code, only the values that are kept and the definitions. `flights` implements them.
 //!
-//! - `sides`: what the two SYNs permitted; `recovery`: from which loss an endpoint recovers; `stretch`: some positions
+//! - `sides`: what the two SYNs permitted; `recovery`: from which loss an endpoint recovers; `stretch`: some positions;
+//!   `making`: segments that were built; `reports`: what blocks report
 //!
 //! The definitions:
 //!
 //! - `specs/Sides`: which endpoints acknowledge selectively
 //! - `specs/Recovering`: up to which position an endpoint recovers from a loss
+//! - `specs/Scoreboard`: what is known of outstanding positions, and what building a segment changes of it
+//! - `specs/Late`: what is lost, since something that was sent later was delivered
+//! - `specs/Delivered`: what an acknowledgment delivers, by its number and by its blocks
 //! - `specs/Marks`: which positions may be sent again, and for which reasons
 //! - `specs/Flights`: what is kept of each endpoint, what it refuses, and what is kept after a step
 #![tactic(auto)]
 
+mod making;
 mod recovery;
+mod reports;
 mod sides;
 mod stretch;
 
+pub use making::{Latest, Making};
 pub use recovery::Recovery;
+pub use reports::Reports;
 pub use sides::Sides;
 pub use stretch::Stretch;

@@ -9,6 +9,7 @@ pub mod Keeping
 pub mod RunLemmas
 pub mod MarkLemmas
 pub mod RangeLemmas
+pub mod Firsts
 pub mod RangeEdits
 pub mod RangeRemoved
 pub mod RangeAdded
@@ -16,6 +17,7 @@ pub mod PieceLemmas
 pub mod PieceJoins
 pub mod PieceMakes
 pub mod FlightLemmas
+pub mod FlyingLemmas
 pub mod FlightEnds
 pub mod MadeLemmas
 pub mod ReadLemmas

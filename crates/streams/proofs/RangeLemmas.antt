@@ -24,7 +24,7 @@ unfolding span
 contains-span from upto p = contains-from_list_nat (positions from upto) p ∙ (in_counted from (upto - from) p ∙ grind (arith, nat_tests))
 
 -- a test that each counted position passes, one fails, one passes, or none
-all_counted : (f : ℕ → Bool) (from count : ℕ) → ((p : ℕ) → from ≤ p → p < from + count → f p ≡ true) → list_all f (counted_from from count) ≡ true
+pub all_counted : (f : ℕ → Bool) (from count : ℕ) → ((p : ℕ) → from ≤ p → p < from + count → f p ≡ true) → list_all f (counted_from from count) ≡ true
 all_counted f from zero each = refl
 all_counted f from (suc count) each =
     rw (each from (omega arith) (omega arith)) (all_counted f (suc from) count (λ p low high. each p (omega arith) (omega arith)))
@@ -34,7 +34,7 @@ none_counted f from zero each = refl
 none_counted f from (suc count) each =
     rw (each from (omega arith) (omega arith)) (none_counted f (suc from) count (λ p low high. each p (omega arith) (omega arith)))
 
-counted_all : (f : ℕ → Bool) (from count : ℕ) → list_all f (counted_from from count) ≡ true → (p : ℕ) → from ≤ p → p < from + count → f p ≡ true
+pub counted_all : (f : ℕ → Bool) (from count : ℕ) → list_all f (counted_from from count) ≡ true → (p : ℕ) → from ≤ p → p < from + count → f p ≡ true
 counted_all f from zero all p low high = absurd (omega arith)
 counted_all f from (suc count) all p low high = by (f from) refl (nat_eq from p) refl (λ rest above. counted_all f (suc from) count rest p above (omega arith))
   where
@@ -63,7 +63,7 @@ counted_none f from (suc count) none p low high =
         let above : suc from ≤ p = grind (arith, nat_tests, here, low) in
         rest (rw is at none) above
 
-not_counted : (f : ℕ → Bool) (from count p : ℕ) → from ≤ p → p < from + count → f p ≡ false → list_all f (counted_from from count) ≡ false
+pub not_counted : (f : ℕ → Bool) (from count p : ℕ) → from ≤ p → p < from + count → f p ≡ false → list_all f (counted_from from count) ≡ false
 not_counted f from count p low high is = by (list_all f (counted_from from count)) refl
   where
     by : (b : Bool) → list_all f (counted_from from count) ≡ b → list_all f (counted_from from count) ≡ false
@@ -191,7 +191,7 @@ is_after (d ∷ es) low q e h is = by (nat_lt q d.0) refl (λ later. is_after es
         }
 
 -- no range ends after it
-none_after : (es : List (ℕ × ℕ)) (q p : ℕ) → first_after q es ≡ None → q ≤ p → in_entries es p ≡ false
+pub none_after : (es : List (ℕ × ℕ)) (q p : ℕ) → first_after q es ≡ None → q ≤ p → in_entries es p ≡ false
 none_after [] q p is low = refl
 none_after (d ∷ es) q p is low = by (nat_lt q d.0) refl (λ later. none_after es q p later low)
   where

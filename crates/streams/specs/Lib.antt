@@ -7,6 +7,7 @@ pub mod Marks
 pub mod Ranges
 pub mod RangeEntries
 pub mod Pieces
+pub mod Flying
 pub mod Forgetting
 pub mod InOrder
 pub mod Views

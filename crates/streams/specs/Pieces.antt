@@ -87,10 +87,10 @@ grown end upto state pieces =
 
 -- the last position of a segment that was outstanding before, and of one that wasn't
 abbrev pub built_again : (number moment : ℕ) → Bool → Outstanding
-built_again number moment last = record { number = number; moment = moment; again = true; last = last; told = false }
+built_again number moment last = record { number = number; moment = moment; again = true; last = last }
 
 abbrev pub built_first : (number moment : ℕ) → Outstanding
-built_first number moment = record { number = number; moment = moment; again = false; last = true; told = false }
+built_first number moment = record { number = number; moment = moment; again = false; last = true }
 
 -- what is shown from a position on, of pieces that end at another, once a segment was built
 abbrev pub rebuilt : (from end position upto number moment : ℕ) → List Outstanding → List Outstanding

@@ -1,8 +1,8 @@
 -- Sets of positions.
-use Rattle.std.specs.Prelude.{ℕ, zero, suc, ◌-◌, Bool, List, [], ◌∷◌}
-use Rattle.std.specs.List.{list_all, list_any}
+use Rattle.std.specs.Prelude.{ℕ, zero, suc, ◌-◌, min, nat_le, Bool, List, [], ◌∷◌, Option}
+use Rattle.std.specs.List.{filter, list_all, list_any, reduce}
 use Rattle.std.specs.Ordering.{nat_cmp}
-use Rattle.std.specs.FinSet.{FinSet, contains, from_list}
+use Rattle.std.specs.FinSet.{FinSet, contains, from_list, items}
 
 -- this many positions from this one on
 abbrev pub counted_from : (from count : ℕ) → List ℕ
@@ -24,3 +24,7 @@ meets held from upto = list_any (contains held) (positions from upto)
 -- each of them is
 unfoldable pub covers : FinSet nat_cmp → (from upto : ℕ) → Bool
 covers held from upto = list_all (contains held) (positions from upto)
+
+-- the first position from this one on that is in the set
+unfoldable pub first_held : FinSet nat_cmp → ℕ → Option ℕ
+first_held held position = reduce min (filter (nat_le position) (items held))

@@ -2,10 +2,12 @@
 //!
 //! Of an acknowledged position nothing is known: the list shows `None` there. `specs/Pieces` defines each call.
 
-ghost use Rattle.std.specs.Prelude.{◌≡◌, ◌≤◌, ◌<◌, ◌+◌, ◌^◌, [], length, OnOk, OnErr};
+ghost use Rattle.std.specs.Prelude.{◌≡◌, ◌≤◌, ◌<◌, [], length, None, OnOk, OnErr, IfSome};
+ghost use Rattle.streams.specs.Flying.{AreAlike};
 ghost use Rattle.streams.specs.Pieces.{acknowledged, known_from, made};
 
-use super::piece::{Piece, begin_at, drop_through, make};
+use super::outstanding::Outstanding;
+use super::piece::{Piece, begin_at, drop_through, make, piece_after};
 use std::alloc::{AllocError, Global};
 use std::collections::BTreeMap;
 use std::marker::Model;
@@ -52,22 +54,21 @@ impl Flight {
         self.end
     }
 
-    /// Takes a segment that was built at this moment (in microseconds), as the segment of this number, with this many
-    /// positions from this one on. The error means that memory ran out.
+    /// Takes a segment that was built at this moment (in microseconds), as the segment of this number, with the
+    /// positions from this one to before `upto`. The error means that memory ran out.
     pub fn make(
         &mut self,
         position: u64,
-        count: u64,
+        upto: u64,
         number: u64,
         moment: u64,
     ) -> Result<(), AllocError>
         requires from { acknowledged self.old ≤ position }
         requires to { position ≤ length self.old }
-        requires fits { position + count < 2 ^ 63 }
-        ensures ok { OnOk result (self.new ≡ made position (position + count) number moment self.old) }
+        requires order { position ≤ upto }
+        ensures ok { OnOk result (self.new ≡ made position upto number moment self.old) }
         ensures err { OnErr result (self.new ≡ self.old) }
     {
-        let upto = position + count;
         make(&mut self.pieces, self.end, position, upto, number, moment)?;
         self.end = self.end.max(upto);
         Ok(())
@@ -78,6 +79,19 @@ impl Flight {
         ensures { result ≡ acknowledged self.now }
     {
         self.snd_una
+    }
+
+    /// Where positions end that are alike from this one on, with what is known of the last one. None: this one isn't
+    /// known.
+    pub(crate) fn alike_from(&self, position: u64) -> Option<(u64, Outstanding)>
+        requires { acknowledged self.now ≤ position }
+        ensures none { result ≡ None → length self.now ≤ position }
+        ensures some { IfSome result (λ piece. (position < piece.0) × AreAlike self.now position piece.0 piece.1) }
+    {
+        match piece_after(&self.pieces, position) {
+            Some((end, piece)) => Some((end, piece.state)),
+            None => None,
+        }
     }
 
     /// Forgets the positions below this one, which were acknowledged.

@@ -6,19 +6,19 @@
 //!
 //! - `byte_queue`: bytes appended at the end and removed from the front
 //! - `cell`: what is at one position
-//! - `receive`: what was received from the peer, until it is delivered; `cell_queue` holds it, and `byte_places` writes
-//!   bytes by place
+//! - `receive`: what was received from the peer, until it is delivered; `cell_queue` holds it, and `byte_places`
+//!   writes bytes by place
 //! - `send`: the bytes that sends accepted, until they are acknowledged
 //! - `transmission`, `transmissions`: when a position was first built, and whether it was retransmitted; `runs` keeps
 //!   the first by segments, `marks` the second by ranges
 //! - `ranges`: a set of positions; `flight`: what is known of each outstanding position, in pieces; both are kept by
-//!   their ends, so `by_end` drops some of either
+//!   their ends, so `by_end` drops some of either; `flying`: what is in flight, by segments
 //! - `laws`: nothing reads what was discarded, reads return what the peer sent, in order, and a segment ends once
 //!
 //! Each buffer shows the whole list from position 0 on, with a fixed value in the places of what it discarded. The
 //! contracts use the definitions in specs/. Read `Cells` first, then `Received` and `Sent`, then `Transmissions`;
-//! `Ranges` and `Pieces` stand alone. `InOrder` states what follows, and `Forgetting` what may be discarded. The
-//! callers decide which bytes may be kept, read or sent.
+//! `Ranges`, and `Pieces` with `Flying`, stand alone. `InOrder` states what follows, and `Forgetting` what may be
+//! discarded. The callers decide which bytes may be kept, read or sent.
 #![tactic(auto)]
 
 mod by_end;
@@ -27,6 +27,7 @@ mod byte_queue;
 mod cell;
 mod cell_queue;
 mod flight;
+mod flying;
 mod laws;
 mod marks;
 mod outstanding;
@@ -40,6 +41,7 @@ mod transmissions;
 
 pub use cell::Cell;
 pub use flight::Flight;
+pub use flying::{Run, next_run};
 pub use laws::{
     forgetting_streams, forgetting_transmissions, segments_end_once, starts_are_prefixes,
     streams_in_order,

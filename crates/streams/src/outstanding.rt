@@ -1,7 +1,7 @@
 //! What a sender knows of a position that it built and nobody acknowledged: what is in flight and what is lost follow
 //! from it (RFC 6675, 4; RFC 8985, 6.2).
 
-/// The last making of one position, and what the receiver told of it.
+/// The last making of one position.
 #[derive(Clone, Copy)]
 pub struct Outstanding {
     /// The number of the segment that was built last with this position.
@@ -12,6 +12,4 @@ pub struct Outstanding {
     pub again: bool,
     /// Whether this is the last position of that segment.
     pub last: bool,
-    /// Whether the receiver told that it has this position.
-    pub told: bool,
 }

@@ -111,7 +111,6 @@ pub(crate) fn make(
         moment,
         again: false,
         last: true,
-        told: false,
     };
     grow(pieces, end, upto, state)?;
     state.again = true;
@@ -149,8 +148,8 @@ fn join(pieces: &mut BTreeMap<u64, Piece>, from: u64, upto: u64, state: Outstand
     }
 }
 
-// The first piece that ends after a position, with its end.
-fn piece_after(pieces: &BTreeMap<u64, Piece>, position: u64) -> Option<(u64, Piece)>
+/// The first piece that ends after a position, with its end.
+pub(crate) fn piece_after(pieces: &BTreeMap<u64, Piece>, position: u64) -> Option<(u64, Piece)>
     ensures { result ≡ piece_after position pieces.now.entries }
 {
     match pieces

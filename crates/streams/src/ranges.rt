@@ -5,9 +5,9 @@
 //! has to be allocated where the lowest positions are forgotten. `specs/Ranges` defines what sets of positions need
 //! beyond the words of finite sets; `specs/RangeEntries` says how one is kept.
 
-ghost use Rattle.std.specs.Prelude.{◌≡◌, IfOk, OnOk, OnErr};
+ghost use Rattle.std.specs.Prelude.{◌≡◌, ◌≤◌, ◌<◌, ◌+◌, ◌^◌, false, true, IfOk, IfSome, OnOk, OnErr};
 ghost use Rattle.std.specs.FinSet as set;
-ghost use Rattle.streams.specs.Ranges.{covers, meets, span};
+ghost use Rattle.streams.specs.Ranges.{covers, first_held, meets, span};
 ghost use Rattle.streams.specs.RangeEntries.{begun_at, first_after, first_from, joined_end, joined_start, with_lower};
 
 use super::by_end::drop_between;
@@ -117,6 +117,29 @@ impl Ranges {
         match ending_after(&self.starts, from) {
             Some((end, start)) => start <= from && upto <= end,
             None => false,
+        }
+    }
+
+    /// The first position from this one on that is in the set.
+    pub fn next_held(&self, position: u64) -> Option<u64>
+        ensures first { result ≡ first_held self.now position }
+        ensures small { IfSome result (λ position. position + 1 < 2 ^ 64) }
+    {
+        match ending_after(&self.starts, position) {
+            Some((_, start)) => Some(start.max(position)),
+            None => None,
+        }
+    }
+
+    /// The first position from this one on that isn't in the set.
+    pub fn next_missing(&self, position: u64) -> u64
+        ensures from { position ≤ result }
+        ensures missing { set.contains self.now result ≡ false }
+        ensures held { covers self.now position result ≡ true }
+    {
+        match ending_after(&self.starts, position) {
+            Some((end, start)) => { if start <= position { end } else { position } }
+            None => position,
         }
     }
 

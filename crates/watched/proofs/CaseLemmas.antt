@@ -7,7 +7,6 @@ use Rattle.case_forms.specs.Versions.{says_sender}
 use Rattle.case_forms.specs.TakenLines.{event_taken}
 use Rattle.case_forms.specs.declared.calls.Answer.{Answer}
 use Rattle.case_forms.specs.declared.calls.Call.{Call}
-use Rattle.case_forms.specs.declared.calls.Host.{Host}
 use Rattle.case_forms.specs.declared.named_line.Extras.{Extras}
 use Rattle.case_forms.specs.declared.named_line.Extras.TheVariants.{Bare, One, Two}
 use Rattle.case_forms.specs.declared.trace.Event.{Event}
@@ -39,7 +38,7 @@ use Rattle.spec_duties.specs.Observations.{observe, observe_turn, unseen, view_i
 use Rattle.spec_duties.specs.Watching.{Duties, duty_rules, duties_after}
 use Rattle.duties.proofs.SlackLemmas.{not_judging, refused_unjudged}
 use Rattle.spec_flights.specs.Flights.{Flights, flights_after, refusal}
-use Rattle.spec_cases.specs.Cases.{Known, Watched, after, asked_after, asked_rules, broken_by, forget, flown, case_rules, judged_rules}
+use Rattle.spec_cases.specs.Cases.{Known, after, asked_after, asked_rules, broken_by, forget, flown, case_rules, judged_rules}
 use Rattle.spec_cases.specs.Cases.{known_after, model_rules, noted_by, refused_at, refused_by, watch_rules, with_refusal, with_waits}
 use Rattle.spec_duties.specs.declared.answering.CallChange.TheVariants as call_change
 use Rattle.spec_duties.specs.declared.observations.Observation.{Observation}
@@ -67,19 +66,20 @@ noted-forget h moment w s d =
         record (duties_after (says_sender h.version) slack v moment s d) { waits = if says_sender h.version then x else d.waits }
 
 -- nor is it seen by what is kept of data in flight
-flown-forget : (h : Header) (w : World tcp_shape) (s : Observation) (fs : Flights) → flown h (forgetting.forget w) s fs ≡ flown h w s fs
-flown-forget h w s fs = ap (λ v. flights_after h v s fs) (view_in-forget w s.touched)
+flown-forget : (h : Header) (moment : ℕ) (w : World tcp_shape) (s : Observation) (fs : Flights)
+    → flown h moment (forgetting.forget w) s fs ≡ flown h moment w s fs
+flown-forget h moment w s fs = ap (λ v. flights_after h moment v s fs) (view_in-forget w s.touched)
 
 -- what the code notes is what is kept
 kept_is : (h : Header) (w : World tcp_shape) (fs : Flights) (d : Duties) (steps moment : ℕ) (step : Step tcp_shape)
     → case_of (record { header = h; world = forgetting.forget (network.after (tcp h) moment w step); steps = suc steps })
-    (flown h (forgetting.forget (network.after (tcp h) moment w step)) (observe h moment w step) fs)
+    (flown h moment (forgetting.forget (network.after (tcp h) moment w step)) (observe h moment w step) fs)
     (noted_by h moment (forgetting.forget (network.after (tcp h) moment w step)) (observe h moment w step) d)
     ≡ after (record { header = h; world = record { model = w; flights = fs; duties = d }; steps = steps }) moment step
 kept_is h w fs d steps moment step =
     ap (λ (gs : Flights). case_of now gs (noted_by h moment now.world (observe h moment w step) d))
-    (flown-forget h (network.after (tcp h) moment w step) (observe h moment w step) fs)
-    ∙ ap (case_of now (flown h (network.after (tcp h) moment w step) (observe h moment w step) fs))
+    (flown-forget h moment (network.after (tcp h) moment w step) (observe h moment w step) fs)
+    ∙ ap (case_of now (flown h moment (network.after (tcp h) moment w step) (observe h moment w step) fs))
     (noted-forget h moment (network.after (tcp h) moment w step) (observe h moment w step) d)
   where
     now : Progress
@@ -93,8 +93,9 @@ refused-forget h moment k (Effect t answer) = refl
 refused-forget h moment k (At host d) = at d
   where
     seen : (d : HostStep tcp_shape)
-        → refusal h k.flights (observe h moment (forgetting.forget k.model) (At host d)) ≡ refusal h k.flights (observe h moment k.model (At host d))
-    seen d = ap (λ (s : Observation). refusal h k.flights s) (observe-forget h moment k.model (At host d))
+        → refusal h moment k.flights (observe h moment (forgetting.forget k.model) (At host d))
+        ≡ refusal h moment k.flights (observe h moment k.model (At host d))
+    seen d = ap (λ (s : Observation). refusal h moment k.flights s) (observe-forget h moment k.model (At host d))
 
     at : (d : HostStep tcp_shape) → refused_at h moment (forget k) host d ≡ refused_at h moment k host d
     at (Makes m) = seen (Makes m)
@@ -144,8 +145,10 @@ known-forgets h moment k step none =
     ap (λ (w : World tcp_shape). all w was (observe h moment (forget k).model step)) world
     ∙ ap (λ (s : Observation). all (forgetting.forget is) was s) (observe-forget h moment k.model step)
     ∙ ap (λ (gs : Flights). triple gs (noted_by h moment was now k.duties))
-    (sym (flown-forget h was now k.flights) ∙ ap (λ (w : World tcp_shape). flown h w now k.flights) world ∙ flown-forget h is now k.flights)
-    ∙ ap (triple (flown h is now k.flights)) (
+    (sym (flown-forget h moment was now k.flights)
+    ∙ ap (λ (w : World tcp_shape). flown h moment w now k.flights) world
+    ∙ flown-forget h moment is now k.flights)
+    ∙ ap (triple (flown h moment is now k.flights)) (
     sym (noted-forget h moment was now k.duties)
     ∙ ap (λ (w : World tcp_shape). noted_by h moment w now k.duties) world
     ∙ noted-forget h moment is now k.duties)
@@ -154,7 +157,7 @@ known-forgets h moment k step none =
     now = observe h moment k.model step
 
     all : (kept was : World tcp_shape) → Observation → Known
-    all w was s = record { model = w; flights = flown h was s k.flights; duties = noted_by h moment was s k.duties }
+    all w was s = record { model = w; flights = flown h moment was s k.flights; duties = noted_by h moment was s k.duties }
 
     triple : Flights → Duties → Known
     triple gs d = record { model = forgetting.forget (network.after (tcp h) moment k.model step); flights = gs; duties = d }
@@ -223,14 +226,14 @@ module _ (p : Progress) (fs : Flights) (d : Duties) (moment : ℕ) (step : Step 
 
   -- the case after a step that was noted
   pub step_is : {A : Type 0} (r : Result A StepFault) (u : Progress) (s : Observation) (gs : Flights) (e : Duties)
-      → u ≡ model_after p moment step → s ≡ seen → gs ≡ flown u.header u.world s fs
+      → u ≡ model_after p moment step → s ≡ seen → gs ≡ flown u.header moment u.world s fs
       → OnOk r (e ≡ noted_by u.header moment u.world s d) → OnOk r (case_of u gs e ≡ after (case_of p fs d) moment step)
   step_is (Err fault) u s gs e is sees flies notes = tt
   step_is (Ok x) u s gs e is sees flies notes =
       ap (λ (gs : Flights). case_of u gs e) flies
-      ∙ ap (case_of u (flown u.header u.world s fs)) notes
-      ∙ ap (λ (s : Observation). case_of u (flown u.header u.world s fs) (noted_by u.header moment u.world s d)) sees
-      ∙ ap (λ (u : Progress). case_of u (flown u.header u.world seen fs) (noted_by u.header moment u.world seen d)) is
+      ∙ ap (case_of u (flown u.header moment u.world s fs)) notes
+      ∙ ap (λ (s : Observation). case_of u (flown u.header moment u.world s fs) (noted_by u.header moment u.world s d)) sees
+      ∙ ap (λ (u : Progress). case_of u (flown u.header moment u.world seen fs) (noted_by u.header moment u.world seen d)) is
       ∙ kept_is p.header p.world fs d p.steps moment step
 
   first_is : (rule : Rule) → Some rule ≡ refused_by p.header moment known step
@@ -285,8 +288,9 @@ nothing_noted (Some slack) true moment w d = refl
 nothing_noted (Some slack) false moment w d = refl
 
 -- nothing is kept of data in flight before version 6
-pub flown_before : (h : Header) (w : World tcp_shape) (s : Observation) (fs : Flights) → says_sender h.version ≡ false → flown h w s fs ≡ fs
-flown_before h w s fs old = rw (old) refl
+pub flown_before : (h : Header) (moment : ℕ) (w : World tcp_shape) (s : Observation) (fs : Flights) → says_sender h.version ≡ false
+    → flown h moment w s fs ≡ fs
+flown_before h moment w s fs old = rw (old) refl
 
 -- duties judge nothing of it
 abbrev NothingSeen : Header → Option (Step tcp_shape) → Type 0
@@ -350,8 +354,8 @@ plain_line_is (Ok x) p u fs d moment None plain is = ap (λ (u : Progress). case
 plain_line_is (Ok x) p u fs d moment (Some step) plain is =
     ap (λ (u : Progress). case_of u fs d) is
     ∙ ap (λ (gs : Flights). case_of now gs d)
-    (sym (flown_before p.header (network.after (tcp p.header) moment p.world step) (observe p.header moment p.world step) fs plain.0))
-    ∙ ap (case_of now (flown p.header (network.after (tcp p.header) moment p.world step) (observe p.header moment p.world step) fs))
+    (sym (flown_before p.header moment (network.after (tcp p.header) moment p.world step) (observe p.header moment p.world step) fs plain.0))
+    ∙ ap (case_of now (flown p.header moment (network.after (tcp p.header) moment p.world step) (observe p.header moment p.world step) fs))
     (sym (nothing_kept p.header moment p.world (network.after (tcp p.header) moment p.world step) d step plain.1))
   where
     now : Progress

@@ -50,6 +50,7 @@ use Rattle.spec_duties.specs.declared.owed.Lates.{Lates}
 use Rattle.spec_duties.specs.declared.views.View.{View}
 use Rattle.spec_duties.specs.Dropped.{bare, droppable_by, discards_at, earns_by_dropping, earns_by_taking, is_old, taking_breaks, answering_breaks}
 use Rattle.spec_duties.specs.Sampling.{may_measure, sampling_at}
+use Rattle.spec_duties.specs.Blocks.{blocks_taken}
 use Rattle.spec_duties.specs.Observations.{syn_dropped, syn_sent, syn_taken}
 use Rattle.spec_duties.specs.Observations.{observe, observe_host_step, at_place, at_ports, at_next, at_sender, at_target, at_drop, unseen}
 use Rattle.spec_duties.specs.Observations.{processing_of, sending_of, accepting, observe_accept, observe_close, observe_other, observe_opened, on_target}
@@ -142,6 +143,11 @@ syn_drop-forget v m Nobody = refl
 syn_drop-forget v m (AtListener l) = refl
 syn_drop-forget v m (AtEndpoint i e) = refl
 
+blocks-forget : (h : Header) (m : Emission) (t : Taker) → blocks_taken h.version m (forget_taker t) ≡ blocks_taken h.version m t
+blocks-forget h m Nobody = refl
+blocks-forget h m (AtListener l) = refl
+blocks-forget h m (AtEndpoint i e) = rw (read-forget h e m, snd_max-forget e) refl
+
 sender-seen : (host : Host) (b : HostTcp) (wire : Wire) (m : Emission) → at_sender host (forget_body b) wire m ≡ at_sender host b wire m
 sender-seen host b wire m = rw (place-seen host b (sending_of wire m) m.sender.number) refl
 
@@ -184,6 +190,7 @@ host_step-seen h moment w fresh host s (network.Takes line how) = by (waiting li
           sampling-forget h how m (taker s.body m),
           earning-forget h m (taker s.body m),
           syn-forget h.version m (taker s.body m),
+          blocks-forget h m (taker s.body m),
         ) refl
 host_step-seen h moment w fresh host s (network.Drops line) =
     rw (taking-forget h moment w host line, answering-forget h w host line) (by (waiting line s.inbox))

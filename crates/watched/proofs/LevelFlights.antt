@@ -1,11 +1,10 @@
 -- Data in flight at another level of congestion control: the same is kept, and if less is judged, no more is refused.
-use Rattle.std.proofs.Common.{◌≡◌, ℕ, ◌≤◌, Bool, true, false, List, [], ◌∷◌, ◌++◌, Option, None, Some, map, refl, ap, sym, ◌∙◌, arith}
+use Rattle.std.proofs.Common.{◌≡◌, ℕ, ◌+◌, ◌≤◌, Bool, true, false, List, [], ◌∷◌, ◌++◌, Option, None, Some, map, refl, ap, sym, ◌∙◌, arith}
 use Rattle.std.specs.Prelude.{◌&&◌, not, if◌then◌else◌, nat_eq}
 use Rattle.std.specs.FinSet.{difference, from_list, items, union}
 use Rattle.std.specs.Option.{option_map}
 use Rattle.indexmap.specs.IndexMap.{insert_entry}
 use Rattle.case_forms.specs.Versions.{says_sender}
-use Rattle.case_forms.specs.declared.calls.Host.{Host}
 use Rattle.case_forms.specs.declared.timer.Timer.TheVariants.{Giveup, Msl2, Persist, Pto, Rto}
 use Rattle.case_forms.specs.declared.trace.Header.{Header}
 use Rattle.case_forms.specs.declared.version.Judged.{Judged}
@@ -32,12 +31,15 @@ use Rattle.spec_duties.specs.declared.observations.SynChange.{SynChange}
 use Rattle.spec_duties.specs.declared.observations.SynChange.TheVariants as syn
 use Rattle.spec_duties.specs.declared.observations.TouchedEndpoint.{TouchedEndpoint}
 use Rattle.spec_duties.specs.declared.views.View.{View}
-use Rattle.spec_flights.specs.Flights.{Flight, Flights, broken_at, flight_after, flight_at, flights_touched, may_begin, goes_again, may_go_again, refusal}
-use Rattle.spec_flights.specs.Flights.{repairs_plainly}
-use Rattle.spec_flights.specs.Marks.{marked_by, marked_by_event, taken_by}
-use Rattle.spec_flights.specs.Recovering.{recovery_after}
+use Rattle.spec_flights.specs.Delivered.{read_reports, without_reports}
+use Rattle.spec_flights.specs.Flights.{Flight, Flights, board_after, broken_at, flight_after, flight_at, flight_by, flights_touched, may_begin, goes_again}
+use Rattle.spec_flights.specs.Flights.{marks_oldest, may_go_again, number_built, refusal, rescued_after}
+use Rattle.spec_flights.specs.Marks.{marked_by, marked_by_event, marks_after, old_part, taken_by}
+use Rattle.spec_flights.specs.Recovering.{is_recovering, recovery_after}
+use Rattle.spec_flights.specs.Scoreboard.{Scoreboard}
 use Rattle.spec_flights.specs.Sides.{sides_after}
 use Rattle.spec_flights.specs.declared.recovery.Recovery.{Recovery}
+use Rattle.spec_flights.specs.declared.reports.Reports.{Reports}
 use Rattle.spec_flights.specs.declared.sides.Sides.{Sides}
 use Rattle.spec_flights.specs.declared.stretch.Stretch.{Stretch}
 use Rattle.spec_cases.specs.Cases.{Known, flown, model_rules, refused_at, refused_by, with_broken, with_refusal}
@@ -60,28 +62,27 @@ recovery_same (Expires Giveup) b after r = refl
 recovery_same (Expires Pto) b after r = refl
 recovery_same Recovers b after r = refl
 
-event_same : (event : Event) (a b : ℕ) (before after : View) (repairs : Bool)
-    → marked_by_event event (view_with a before) (view_with b after) repairs ≡ marked_by_event event before after repairs
-event_same Opens a b before after repairs = refl
-event_same (Calls abort) a b before after repairs = refl
-event_same (Processes length rst) a b before after repairs = refl
-event_same (Drops asks unlimited) a b before after repairs = refl
-event_same (Builds m) a b before after repairs = refl
-event_same (Sends s) a b before after repairs = refl
-event_same (Expires Rto) a b before after repairs = refl
-event_same (Expires Persist) a b before after repairs = refl
-event_same (Expires Msl2) a b before after repairs = refl
-event_same (Expires Giveup) a b before after repairs = refl
-event_same (Expires Pto) a b before after repairs = refl
-event_same Recovers a b before after repairs = refl
+event_same : (event : Event) (b : ℕ) (after : View) (oldest : Bool) → marked_by_event event (view_with b after) oldest ≡ marked_by_event event after oldest
+event_same Opens b after oldest = refl
+event_same (Calls abort) b after oldest = refl
+event_same (Processes length rst) b after oldest = refl
+event_same (Drops asks unlimited) b after oldest = refl
+event_same (Builds m) b after oldest = refl
+event_same (Sends s) b after oldest = refl
+event_same (Expires Rto) b after oldest = refl
+event_same (Expires Persist) b after oldest = refl
+event_same (Expires Msl2) b after oldest = refl
+event_same (Expires Giveup) b after oldest = refl
+event_same (Expires Pto) b after oldest = refl
+event_same Recovers b after oldest = refl
 
-marked_same : (change : SynChange) (event : Event) (a b : ℕ) (before after : View) (repairs : Bool)
-    → marked_by change event (view_with a before) (view_with b after) repairs ≡ marked_by change event before after repairs
-marked_same syn.Nothing event a b before after repairs = event_same event a b before after repairs
-marked_same (syn.Sends permits) event a b before after repairs = event_same event a b before after repairs
-marked_same (syn.Takes permits true) event a b before after repairs = refl
-marked_same (syn.Takes permits false) event a b before after repairs = event_same event a b before after repairs
-marked_same syn.ComesAgain event a b before after repairs = refl
+marked_same : (change : SynChange) (event : Event) (b : ℕ) (after : View) (oldest : Bool)
+    → marked_by change event (view_with b after) oldest ≡ marked_by change event after oldest
+marked_same syn.Nothing event b after oldest = event_same event b after oldest
+marked_same (syn.Sends permits) event b after oldest = event_same event b after oldest
+marked_same (syn.Takes permits true) event b after oldest = refl
+marked_same (syn.Takes permits false) event b after oldest = event_same event b after oldest
+marked_same syn.ComesAgain event b after oldest = refl
 
 taken_same : (event : Event) (a : ℕ) (before : View) → taken_by event (view_with a before) ≡ taken_by event before
 taken_same Opens a before = refl
@@ -93,59 +94,132 @@ taken_same (Sends s) a before = refl
 taken_same (Expires timer) a before = refl
 taken_same Recovers a before = refl
 
-flight_same : (change : SynChange) (event : Event) (a b : ℕ) (before after : View) (f : Flight)
-    → flight_after change event (view_with a before) (view_with b after) f ≡ flight_after change event before after f
-flight_same change event a b before after f =
-    ap (λ (r : Recovery). with r (taken_by event (view_with a before))
-    (marked_by change event (view_with a before) (view_with b after) (repairs_plainly after sides r)))
-    (recovery_same event b after f.recovery)
-    ∙ ap (λ (t : Stretch). with now t (marked_by change event (view_with a before) (view_with b after) repairs)) (taken_same event a before)
-    ∙ ap (with now (taken_by event before)) (marked_same change event a b before after repairs)
-  where
-    marks : (taken marked : Stretch) → List ℕ
-    marks taken marked =
-        items
-        (difference (union (difference (from_list f.marks) (span taken.from taken.upto)) (span marked.from marked.upto)) (span 0 after.snd_una))
+oldest_same : (clock : ℕ) (event : Event) (a b : ℕ) (before after : View) (sides : Sides) (r : Recovery) (f : Flight)
+    → marks_oldest clock event (view_with a before) (view_with b after) sides r f ≡ marks_oldest clock event before after sides r f
+oldest_same clock Opens a b before after sides r f = refl
+oldest_same clock (Calls abort) a b before after sides r f = refl
+oldest_same clock (Processes length rst) a b before after sides r f = refl
+oldest_same clock (Drops asks unlimited) a b before after sides r f = refl
+oldest_same clock (Builds m) a b before after sides r f = refl
+oldest_same clock (Sends s) a b before after sides r f = refl
+oldest_same clock (Expires timer) a b before after sides r f = refl
+oldest_same clock Recovers a b before after sides r f = refl
 
+board_same : (moment clock : ℕ) (recovers : Bool) (number : ℕ) (event : Event) (a b : ℕ) (before after : View) (r : Reports) (x : Scoreboard)
+    → board_after moment clock recovers number event (view_with a before) (view_with b after) r x
+    ≡ board_after moment clock recovers number event before after r x
+board_same moment clock recovers number Opens a b before after r x = refl
+board_same moment clock recovers number (Calls abort) a b before after r x = refl
+board_same moment clock recovers number (Processes length rst) a b before after r x = refl
+board_same moment clock recovers number (Drops asks unlimited) a b before after r x = refl
+board_same moment clock recovers number (Builds m) a b before after r x = refl
+board_same moment clock recovers number (Sends s) a b before after r x = refl
+board_same moment clock recovers number (Expires Rto) a b before after r x = refl
+board_same moment clock recovers number (Expires Persist) a b before after r x = refl
+board_same moment clock recovers number (Expires Msl2) a b before after r x = refl
+board_same moment clock recovers number (Expires Giveup) a b before after r x = refl
+board_same moment clock recovers number (Expires Pto) a b before after r x = refl
+board_same moment clock recovers number Recovers a b before after r x = refl
+
+rescued_same : (clock : ℕ) (event : Event) (a : ℕ) (before : View) (f : Flight)
+    → rescued_after clock event (view_with a before) f ≡ rescued_after clock event before f
+rescued_same clock Opens a before f = refl
+rescued_same clock (Calls abort) a before f = refl
+rescued_same clock (Processes length rst) a before f = refl
+rescued_same clock (Drops asks unlimited) a before f = refl
+rescued_same clock (Builds m) a before f = refl
+rescued_same clock (Sends s) a before f = refl
+rescued_same clock (Expires Rto) a before f = refl
+rescued_same clock (Expires Persist) a before f = refl
+rescued_same clock (Expires Msl2) a before f = refl
+rescued_same clock (Expires Giveup) a before f = refl
+rescued_same clock (Expires Pto) a before f = refl
+rescued_same clock Recovers a before f = refl
+
+marks_same : (change : SynChange) (event : Event) (a b : ℕ) (before after : View) (r : Reports) (oldest : Bool) (marks : List ℕ)
+    → marks_after change event (view_with a before) (view_with b after) r oldest marks ≡ marks_after change event before after r oldest marks
+marks_same change event a b before after r oldest marks =
+    ap (λ (taken : Stretch). left taken (marked_by change event (view_with b after) oldest)) (taken_same event a before)
+    ∙ ap (left (taken_by event before)) (marked_same change event b after oldest)
+  where
+    left : (taken marked : Stretch) → List ℕ
+    left taken marked =
+        items
+        (difference (union (without_reports (difference (from_list marks) (span taken.from taken.upto)) r) (span marked.from marked.upto))
+        (span 0 after.snd_una))
+
+flight_same : (moment clock : ℕ) (s : Observation) (t : TouchedEndpoint) (a b : ℕ) (after : View) (f : Flight)
+    → flight_after moment clock (observed_with a s) (touched_with a t) (view_with b after) f ≡ flight_after moment clock s t after f
+flight_same moment clock s t a b after f =
+    ap (λ (r : Recovery). flight_by moment clock (observed_with a s) (touched_with a t) (view_with b after) sides r f)
+    (recovery_same t.event b after f.recovery)
+    ∙ ap (λ (oldest : Bool). with (marks (view_with a t.before) (view_with b after) oldest) board rescued)
+    (oldest_same clock t.event a b t.before after sides now f)
+    ∙ ap (λ (ms : List ℕ). with ms board rescued)
+    (marks_same s.syn_change t.event a b t.before after reports (marks_oldest clock t.event t.before after sides now f) f.marks)
+    ∙ ap (λ (x : Scoreboard). with kept x rescued) (board_same moment clock recovers number t.event a b t.before after reports f.board)
+    ∙ ap (with kept (board_after moment clock recovers number t.event t.before after reports f.board)) (rescued_same clock t.event a t.before f)
+  where
     sides : Sides
-    sides = sides_after change f.sides
+    sides = sides_after s.syn_change f.sides
 
     now : Recovery
-    now = recovery_after event after f.recovery
+    now = recovery_after t.event after f.recovery
 
-    repairs : Bool
-    repairs = repairs_plainly after sides now
+    reports : Reports
+    reports = read_reports sides s.blocks
 
-    with : Recovery → (taken marked : Stretch) → Flight
-    with r taken marked = record { sides = sides; recovery = r; marks = marks taken marked }
+    recovers : Bool
+    recovers = is_recovering t.before f.recovery
 
-broken_same : (event : Event) (a : ℕ) (v : View) (f : Flight) → broken_at event (view_with a v) f ≡ broken_at event v f
-broken_same Opens a v f = refl
-broken_same (Calls abort) a v f = refl
-broken_same (Processes length rst) a v f = refl
-broken_same (Drops asks unlimited) a v f = refl
-broken_same (Builds m) a v f = refl
-broken_same (Sends s) a v f = refl
-broken_same (Expires timer) a v f = refl
-broken_same Recovers a v f = refl
+    number : ℕ
+    number = number_built s.built_change
 
-pub flown_same : (j : Judged) (h : Header) (w : World tcp_shape) (edge : ℕ) (s : Observation) (fs : Flights)
-    → flown (header_by j h) (world_judged j h w) (observed_with edge s) fs ≡ flown h w s fs
-flown_same j h w edge s fs =
+    marks : (before after : View) (oldest : Bool) → List ℕ
+    marks before after oldest = marks_after s.syn_change t.event before after reports oldest f.marks
+
+    kept : List ℕ
+    kept = marks t.before after (marks_oldest clock t.event t.before after sides now f)
+
+    board : Scoreboard
+    board = board_after moment clock recovers number t.event (view_with a t.before) (view_with b after) reports f.board
+
+    rescued : Bool
+    rescued = rescued_after clock t.event (view_with a t.before) f
+
+    with : List ℕ → Scoreboard → Bool → Flight
+    with ms x used = record { sides = sides; recovery = now; marks = ms; board = x; rescued = used }
+
+broken_same : (clock : ℕ) (event : Event) (a : ℕ) (v : View) (f : Flight) → broken_at clock event (view_with a v) f ≡ broken_at clock event v f
+broken_same clock Opens a v f = refl
+broken_same clock (Calls abort) a v f = refl
+broken_same clock (Processes length rst) a v f = refl
+broken_same clock (Drops asks unlimited) a v f = refl
+broken_same clock (Builds m) a v f = refl
+broken_same clock (Sends s) a v f = refl
+broken_same clock (Expires timer) a v f = refl
+broken_same clock Recovers a v f = refl
+
+pub flown_same : (j : Judged) (h : Header) (moment : ℕ) (w : World tcp_shape) (edge : ℕ) (s : Observation) (fs : Flights)
+    → flown (header_by j h) moment (world_judged j h w) (observed_with edge s) fs ≡ flown h moment w s fs
+flown_same j h moment w edge s fs =
     let seen = view_seen (profile_of (header_by j h)) w edge s.touched in
-    ap (λ (v : View). with (says_sender h.version) (option_map (touched_with edge) s.touched) v) seen.1
+    ap (λ (v : View). with (says_sender h.version) (observed_with edge s) (option_map (touched_with edge) s.touched) v) seen.1
     ∙ by (says_sender h.version) s.touched seen.0 (view_in w s.touched)
   where
-    with : Bool → Option TouchedEndpoint → View → Flights
-    with strict o v = if strict then on o fs (flights_touched v s.syn_change fs) else fs
+    clock : ℕ
+    clock = moment + h.grain
+
+    with : Bool → Observation → Option TouchedEndpoint → View → Flights
+    with strict s o v = if strict then on o fs (flights_touched moment clock s v fs) else fs
 
     by : (strict : Bool) (o : Option TouchedEndpoint) (b : ℕ) (v : View)
-        → with strict (option_map (touched_with edge) o) (view_with b v) ≡ with strict o v
+        → with strict (observed_with edge s) (option_map (touched_with edge) o) (view_with b v) ≡ with strict s o v
     by false o b v = refl
     by true None b v = refl
     by true (Some t) b v =
         ap (λ (f : Flight). with_host fs t.host (insert_entry nat_eq (pick fs t.host) t.place f))
-        (flight_same s.syn_change t.event edge b t.before v (flight_at fs t.host t.place))
+        (flight_same moment clock s t edge b v (flight_at fs t.host t.place))
 
 -- ---- if less is judged, no more is refused
 
@@ -156,13 +230,13 @@ repeats_less judged.Full judged.NoControl le is = absurd (omega (arith, le))
 repeats_less judged.Recovery judged.NoControl le is = absurd (omega (arith, le))
 repeats_less judged.NoControl judged.NoControl le is = is
 
-refusal_less : (j : Judged) (h : Header) (fs : Flights) (edge : ℕ) (s : Observation) → extent j ≤ extent h.congestion
-    → refusal h fs s ≡ None → refusal (header_by j h) fs (observed_with edge s) ≡ None
-refusal_less j h fs edge s le none =
+refusal_less : (j : Judged) (h : Header) (moment : ℕ) (fs : Flights) (edge : ℕ) (s : Observation) → extent j ≤ extent h.congestion
+    → refusal h moment fs s ≡ None → refusal (header_by j h) moment fs (observed_with edge s) ≡ None
+refusal_less j h moment fs edge s le none =
     by (says_sender h.version) (judges_repeats j) (judges_repeats h.congestion) s.touched (repeats_less j h.congestion le) none
   where
     at : TouchedEndpoint → Option Rule
-    at t = broken_at t.event t.before (flight_at fs t.host t.place)
+    at t = broken_at (moment + h.grain) t.event t.before (flight_at fs t.host t.place)
 
     by : (strict less more : Bool) (o : Option TouchedEndpoint) → (less ≡ true → more ≡ true)
         → (if strict && more then on o None at else None) ≡ None
@@ -171,7 +245,7 @@ refusal_less j h fs edge s le none =
     by true false more o le none = refl
     by true true false o le none = let is : false ≡ true = le refl in absurd cc
     by true true true None le none = refl
-    by true true true (Some t) le none = broken_same t.event edge t.before (flight_at fs t.host t.place) ∙ none
+    by true true true (Some t) le none = broken_same (moment + h.grain) t.event edge t.before (flight_at fs t.host t.place) ∙ none
 
 pub refused_less : (j : Judged) (h : Header) (moment : ℕ) (k : Known) (step : Step tcp_shape) → extent j ≤ extent h.congestion → IsJudged h k.model
     → refused_by h moment k step ≡ None → refused_by (header_by j h) moment (known_judged j h k) step ≡ None
@@ -180,12 +254,12 @@ refused_less j h moment k (Finish line t answer) le is none = refl
 refused_less j h moment k (Effect t answer) le is none = refl
 refused_less j h moment k (At host d) le is none = at d none
   where
-    less : (d : HostStep tcp_shape) → refusal h k.flights (observe h moment k.model (At host d)) ≡ None
-        → refusal (header_by j h) k.flights (observe (header_by j h) moment (world_judged j h k.model) (At host d)) ≡ None
+    less : (d : HostStep tcp_shape) → refusal h moment k.flights (observe h moment k.model (At host d)) ≡ None
+        → refusal (header_by j h) moment k.flights (observe (header_by j h) moment (world_judged j h k.model) (At host d)) ≡ None
     less d none =
         let seen = shows_the_same j h moment k.model (At host d) le is in
-        ap (λ (s : Observation). refusal (header_by j h) k.flights s) seen.1
-        ∙ refusal_less j h k.flights seen.0 (observe h moment k.model (At host d)) le none
+        ap (λ (s : Observation). refusal (header_by j h) moment k.flights s) seen.1
+        ∙ refusal_less j h moment k.flights seen.0 (observe h moment k.model (At host d)) le none
 
     at : (d : HostStep tcp_shape) → refused_at h moment k host d ≡ None → refused_at (header_by j h) moment (known_judged j h k) host d ≡ None
     at (Makes m) none = less (Makes m) none
@@ -270,36 +344,37 @@ refused_out v (Some rules.OldData) rs is = old_out v rs is
 refused_out v (Some rules.Recovery) rs is = recovery_out v rs
 refused_out v (Some _) rs is = absurd is
 
-broken_levels : (v : Version) (event : Event) (seen : View) (f : Flight) → says_sender v ≡ true → IsLevels v (broken_at event seen f)
-broken_levels v (Builds m) seen f is = by (goes_again seen m && not (may_go_again seen m f))
+broken_levels : (v : Version) (clock : ℕ) (event : Event) (seen : View) (f : Flight) → says_sender v ≡ true
+    → IsLevels v (broken_at clock event seen f)
+broken_levels v clock (Builds m) seen f is = by (goes_again seen m && not (may_go_again clock seen f (old_part seen m)))
   where
     by : (b : Bool) → IsLevels v (if b then Some rules.OldData else None)
     by true = is
     by false = tt
-broken_levels v Recovers seen f is = by (may_begin seen f)
+broken_levels v clock Recovers seen f is = by (may_begin clock seen f)
   where
     by : (b : Bool) → IsLevels v (if b then None else Some rules.Recovery)
     by true = tt
     by false = tt
-broken_levels v Opens seen f is = tt
-broken_levels v (Calls abort) seen f is = tt
-broken_levels v (Processes length rst) seen f is = tt
-broken_levels v (Drops asks unlimited) seen f is = tt
-broken_levels v (Sends s) seen f is = tt
-broken_levels v (Expires timer) seen f is = tt
+broken_levels v clock Opens seen f is = tt
+broken_levels v clock (Calls abort) seen f is = tt
+broken_levels v clock (Processes length rst) seen f is = tt
+broken_levels v clock (Drops asks unlimited) seen f is = tt
+broken_levels v clock (Sends s) seen f is = tt
+broken_levels v clock (Expires timer) seen f is = tt
 
-refusal_levels : (h : Header) (fs : Flights) (s : Observation) → IsLevels h.version (refusal h fs s)
-refusal_levels h fs s = by (says_sender h.version) (judges_repeats h.congestion) refl s.touched
+refusal_levels : (h : Header) (moment : ℕ) (fs : Flights) (s : Observation) → IsLevels h.version (refusal h moment fs s)
+refusal_levels h moment fs s = by (says_sender h.version) (judges_repeats h.congestion) refl s.touched
   where
     at : TouchedEndpoint → Option Rule
-    at t = broken_at t.event t.before (flight_at fs t.host t.place)
+    at t = broken_at (moment + h.grain) t.event t.before (flight_at fs t.host t.place)
 
     by : (strict more : Bool) → says_sender h.version ≡ strict → (o : Option TouchedEndpoint)
         → IsLevels h.version (if strict && more then on o None at else None)
     by false more is o = tt
     by true false is o = tt
     by true true is None = tt
-    by true true is (Some t) = broken_levels h.version t.event t.before (flight_at fs t.host t.place) is
+    by true true is (Some t) = broken_levels h.version (moment + h.grain) t.event t.before (flight_at fs t.host t.place) is
 
 refused_levels : (h : Header) (moment : ℕ) (k : Known) (step : Step tcp_shape) → IsLevels h.version (refused_by h moment k step)
 refused_levels h moment k (Begin line t call) = tt
@@ -308,8 +383,8 @@ refused_levels h moment k (Effect t answer) = tt
 refused_levels h moment k (At host d) = at d
   where
     at : (d : HostStep tcp_shape) → IsLevels h.version (refused_at h moment k host d)
-    at (Makes m) = refusal_levels h k.flights (observe h moment k.model (At host (Makes m)))
-    at (Does x) = refusal_levels h k.flights (observe h moment k.model (At host (Does x)))
+    at (Makes m) = refusal_levels h moment k.flights (observe h moment k.model (At host (Makes m)))
+    at (Does x) = refusal_levels h moment k.flights (observe h moment k.model (At host (Does x)))
     at (TimerLine line x) = tt
     at (SendLine line number wire) = tt
     at (Gets line copied wire) = tt

@@ -50,6 +50,7 @@ use Rattle.spec_tcp_laws.proofs.JudgedRules.{MayJudge}
 use Rattle.spec_tcp_laws.proofs.JudgedWorlds.{aim_same, may_judge}
 use Rattle.spec_duties.specs.Dropped.{answering_breaks, bare, discards_at, droppable_by, earns_by_dropping, earns_by_taking, is_old, taking_breaks}
 use Rattle.spec_duties.specs.Sampling.{sampling_at}
+use Rattle.spec_duties.specs.Blocks.{blocks_taken}
 use Rattle.spec_duties.specs.Observations.{syn_dropped, syn_sent, syn_taken}
 use Rattle.spec_duties.specs.Observations.{observe_accept, accepting, at_drop, at_next, at_place, at_ports, at_sender, at_target, observe_call, observe_close}
 use Rattle.spec_duties.specs.Observations.{observe_host_step, observe_dropping, observe_effect, is_done, on_target, observe_opened, observe_other}
@@ -219,6 +220,11 @@ syn_same p v m Nobody = refl
 syn_same p v m (AtListener l) = refl
 syn_same p v m (AtEndpoint i e) = refl
 
+blocks_same : (p : Profile) (v : Version) (m : Emission) (t : Taker) → blocks_taken v m (taker_by p t) ≡ blocks_taken v m t
+blocks_same p v m Nobody = refl
+blocks_same p v m (AtListener l) = refl
+blocks_same p v m (AtEndpoint i e) = refl
+
 syn_drop_same : (p : Profile) (v : Version) (m : Emission) (t : Taker) → syn_dropped v m (taker_by p t) ≡ syn_dropped v m t
 syn_drop_same p v m Nobody = refl
 syn_drop_same p v m (AtListener l) = refl
@@ -282,6 +288,7 @@ host_step_seen p j h moment w fresh host s (network.Takes line how) may = by (wa
           sampling_same p h how m (taker s.body m),
           earning_same p h m (taker s.body m),
           syn_same p h.version m (taker s.body m),
+          blocks_same p h.version m (taker s.body m),
         )
         (shown (see s.body m (taker s.body m)) _ (target_seen p host s.body m (taker s.body m) may))
 host_step_seen p j h moment w fresh host s (network.Drops line) may =

@@ -14,7 +14,6 @@ use Rattle.verdict.specs.Rules.{first_broken}
 use Rattle.verdict.specs.declared.rule.Rule.{Rule}
 use Rattle.verdict.specs.declared.rule.Rule.TheVariants as rules
 use Rattle.window_rules.specs.declared.control.Profile.{Profile}
-use Rattle.spec_network.specs.HostRules.{step_rules}
 use Rattle.spec_network.specs.HostSteps.{Lawful, after}
 use Rattle.spec_network.specs.Hosts.{Stamped, Step, World}
 use Rattle.spec_network.specs.Tables.{Both, on}
@@ -383,8 +382,8 @@ known_kept j h moment k step le is =
     ap (λ (s : Observation). known (after (tcp (header_by j h)) moment (world_judged j h k.model) step) s) seen.1
     ∙ ap (λ (w : World tcp_shape). known w (observed_with seen.0 (observe h moment k.model step))) world
     ∙ ap (λ (fs : Flights). triple fs (noted_by (header_by j h) moment (world_judged j h now) (observed_with seen.0 (observe h moment k.model step)) k.duties))
-    (flown_same j h now seen.0 (observe h moment k.model step) k.flights)
-    ∙ ap (triple (flown h now (observe h moment k.model step) k.flights))
+    (flown_same j h moment now seen.0 (observe h moment k.model step) k.flights)
+    ∙ ap (triple (flown h moment now (observe h moment k.model step) k.flights))
     (noted_same j h moment now seen.0 (observe h moment k.model step) k.duties)
   where
     now : World tcp_shape
@@ -394,7 +393,7 @@ known_kept j h moment k step le is =
     triple fs d = record { model = world_judged j h now; flights = fs; duties = d }
 
     known : World tcp_shape → Observation → Known
-    known w s = record { model = w; flights = flown (header_by j h) w s k.flights; duties = noted_by (header_by j h) moment w s k.duties }
+    known w s = record { model = w; flights = flown (header_by j h) moment w s k.flights; duties = noted_by (header_by j h) moment w s k.duties }
 
 -- ---- a run, and its end
 

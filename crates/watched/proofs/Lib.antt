@@ -1,4 +1,5 @@
 pub mod AscendLemmas
+mod BlockLemmas
 mod CallLemmas
 pub mod CaseLemmas
 mod EndLemmas

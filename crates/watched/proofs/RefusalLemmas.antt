@@ -1,5 +1,5 @@
 -- What a refusal by data in flight changes of the rules of a step.
-use Rattle.std.proofs.Common.{◌≡◌, ℕ, ◌≤◌, ◌<◌, Bool, true, false, List, [], ◌∷◌, Option, None, Some, refl, sym, ap, subst, ◌∙◌, arith}
+use Rattle.std.proofs.Common.{◌≡◌, ℕ, ◌+◌, ◌≤◌, Bool, true, false, List, [], ◌∷◌, Option, None, Some, refl, sym, subst, arith}
 use Rattle.std.proofs.Common.{map}
 use Rattle.std.specs.Prelude.{nat_eq, nat_le, nat_lt, not, ◌&&◌, ◌||◌, if◌then◌else◌, slice_get}
 use Rattle.std.specs.Option.{option_map, option_map_or}
@@ -30,9 +30,10 @@ use Rattle.spec_duties.specs.declared.observations.TouchedEndpoint.{TouchedEndpo
 use Rattle.spec_duties.specs.Views.{view_of}
 use Rattle.spec_duties.specs.declared.views.View.{View}
 use Rattle.spec_flights.specs.Flights.{Flight, broken_at, flight_at, goes_again, judges, may_begin, may_go_again}
+use Rattle.spec_flights.specs.Marks.{old_part}
 use Rattle.spec_cases.specs.Cases as cases
 use Rattle.spec_cases.specs.Cases.{Known, case_rules, model_rules, refused_at, refused_by, watch_rules, with_broken}
-use Rattle.watched.specs.Watched.{least_broken, lesser}
+use Rattle.watched.specs.Watched.{least_broken}
 use Rattle.watched.proofs.AscendLemmas.{ascend_both, rules_top, tops, watch_ascend}
 
 -- some rule of a list has this number
@@ -171,18 +172,18 @@ tops_refused (Some rule) rs top = tops_with rule rs top
 -- ---- the rule by which a step is refused is one of the model's
 
 -- at an endpoint that there may be
-module _ (h : Header) (k : Known) (host : Host) (b : HostTcp) (event : Event) (g : Endpoint → List (Rule × Bool)) where
+module _ (h : Header) (clock : ℕ) (k : Known) (host : Host) (b : HostTcp) (event : Event) (g : Endpoint → List (Rule × Bool)) where
   abbrev refusal_at : Option TouchedEndpoint → Option Rule
-  refusal_at o = if judges h then on o None (λ t. broken_at t.event t.before (flight_at k.flights t.host t.place)) else None
+  refusal_at o = if judges h then on o None (λ t. broken_at clock t.event t.before (flight_at k.flights t.host t.place)) else None
 
-  among_there : ((e : Endpoint) (v : View) (f : Flight) → IsAmong (broken_at event v f) (g e)) → (place : Option ℕ)
+  among_there : ((e : Endpoint) (v : View) (f : Flight) → IsAmong (broken_at clock event v f) (g e)) → (place : Option ℕ)
       → IsAmong (refusal_at (option_map_or (at_place host b event) place None)) (option_map_or g (endpoint_at b place) ((rules.NoEndpoint, true) ∷ []))
   among_there each place = judged (judges h) place
     where
       at : (i : ℕ) (o : Option Endpoint)
           → IsAmong
           (on (option_map (λ e. let t : TouchedEndpoint = record { host = host; place = i; event = event; before = view_of e } in t) o) None
-          (λ t. broken_at t.event t.before (flight_at k.flights t.host t.place)))
+          (λ t. broken_at clock t.event t.before (flight_at k.flights t.host t.place)))
           (option_map_or g o ((rules.NoEndpoint, true) ∷ []))
       at i None = tt
       at i (Some e) = each e (view_of e) (flight_at k.flights host i)
@@ -190,29 +191,29 @@ module _ (h : Header) (k : Known) (host : Host) (b : HostTcp) (event : Event) (g
       judged : (j : Bool) (place : Option ℕ)
           → IsAmong
           (if j then on (option_map_or (at_place host b event) place None) None
-          (λ t. broken_at t.event t.before (flight_at k.flights t.host t.place)) else None)
+          (λ t. broken_at clock t.event t.before (flight_at k.flights t.host t.place)) else None)
           (option_map_or g (endpoint_at b place) ((rules.NoEndpoint, true) ∷ []))
       judged false place = tt
       judged true None = tt
       judged true (Some i) = at i (slice_get b.endpoints i)
 
-making_among : (h : Header) (m : SegmentPlan) (e : Endpoint) (v : View) (f : Flight)
-    → IsAmong (broken_at (events.Builds m) v f) (making_rules h.version e m)
-making_among h m e v f = by (goes v f)
+making_among : (h : Header) (clock : ℕ) (m : SegmentPlan) (e : Endpoint) (v : View) (f : Flight)
+    → IsAmong (broken_at clock (events.Builds m) v f) (making_rules h.version e m)
+making_among h clock m e v f = by (goes v f)
   where
     goes : View → Flight → Bool
-    goes v f = goes_again v m && not (may_go_again v m f)
+    goes v f = goes_again v m && not (may_go_again clock v f (old_part v m))
 
     by : (b : Bool) → IsAmong (if b then Some rules.OldData else None) (making_rules h.version e m)
     by true = refl
     by false = tt
 
-recovering_among : (h : Header) (moment : ℕ) (x : Recovery) (e : Endpoint) (v : View) (f : Flight)
-    → IsAmong (broken_at events.Recovers v f) (recovery_rules h.version e x.change x.cwnd x.ssthresh moment)
-recovering_among h moment x e v f = by (begins v f)
+recovering_among : (h : Header) (clock moment : ℕ) (x : Recovery) (e : Endpoint) (v : View) (f : Flight)
+    → IsAmong (broken_at clock events.Recovers v f) (recovery_rules h.version e x.change x.cwnd x.ssthresh moment)
+recovering_among h clock moment x e v f = by (begins v f)
   where
     begins : View → Flight → Bool
-    begins v f = may_begin v f
+    begins v f = may_begin clock v f
 
     by : (b : Bool) → IsAmong (if b then None else Some rules.Recovery) (recovery_rules h.version e x.change x.cwnd x.ssthresh moment)
     by true = tt
@@ -225,14 +226,18 @@ refused_among h moment k (Finish line t answer) = tt
 refused_among h moment k (Effect t answer) = tt
 refused_among h moment k (At host d) = at d
   where
+    clock : ℕ
+    clock = moment + h.grain
+
     b : HostTcp
     b = (pick k.model.hosts host).body
 
     at : (d : HostStep tcp_shape) → IsAmong (refused_at h moment k host d) (step_rules (tcp h) moment k.model (At host d))
-    at (Makes m) = among_there h k host b (events.Builds m) (λ e. making_rules h.version e m) (making_among h m) (place_of b m.lport m.rport)
+    at (Makes m) =
+        among_there h clock k host b (events.Builds m) (λ e. making_rules h.version e m) (making_among h clock m) (place_of b m.lport m.rport)
     at (Does x) =
-        among_there h k host b events.Recovers (λ e. recovery_rules h.version e x.change x.cwnd x.ssthresh moment) (recovering_among h moment x)
-        (place_of b x.lport x.rport)
+        among_there h clock k host b events.Recovers (λ e. recovery_rules h.version e x.change x.cwnd x.ssthresh moment)
+        (recovering_among h clock moment x) (place_of b x.lport x.rport)
     at (Expires line x) = tt
     at (Sends line number wire) = tt
     at (Gets line copied wire) = tt

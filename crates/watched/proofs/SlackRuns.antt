@@ -59,10 +59,11 @@ module _ (x y : Option ℕ) (h : Header) where
   refused moment few many (At host d) same = at d
     where
       by : (d : HostStep tcp_shape)
-          → refusal two many.flights (observe two moment many.model (At host d)) ≡ refusal one few.flights (observe one moment few.model (At host d))
+          → refusal two moment many.flights (observe two moment many.model (At host d))
+          ≡ refusal one moment few.flights (observe one moment few.model (At host d))
       by d =
-          ap (λ (fs : Flights). refusal two fs (observe two moment many.model (At host d))) same.flights
-          ∙ ap (λ (s : Observation). refusal two few.flights s) (seen moment few many (At host d) same)
+          ap (λ (fs : Flights). refusal two moment fs (observe two moment many.model (At host d))) same.flights
+          ∙ ap (λ (s : Observation). refusal two moment few.flights s) (seen moment few many (At host d) same)
 
       at : (d : HostStep tcp_shape) → refused_at two moment many host d ≡ refused_at one moment few host d
       at (Makes m) = by (Makes m)
@@ -80,9 +81,9 @@ module _ (x y : Option ℕ) (h : Header) where
   same_after moment few many step same = record {
     model = world moment few many step same;
     flights =
-        ap (λ (fs : Flights). flown two (after (tcp two) moment many.model step) (observe two moment many.model step) fs) same.flights
-        ∙ ap (λ (w : World tcp_shape). flown two w (observe two moment many.model step) few.flights) (world moment few many step same)
-        ∙ ap (λ (s : Observation). flown two (after (tcp one) moment few.model step) s few.flights) (seen moment few many step same);
+        ap (λ (fs : Flights). flown two moment (after (tcp two) moment many.model step) (observe two moment many.model step) fs) same.flights
+        ∙ ap (λ (w : World tcp_shape). flown two moment w (observe two moment many.model step) few.flights) (world moment few many step same)
+        ∙ ap (λ (s : Observation). flown two moment (after (tcp one) moment few.model step) s few.flights) (seen moment few many step same);
   }
 
 -- without a slack, no duty is judged

@@ -13,7 +13,7 @@ use Rattle.case_forms.specs.declared.calls.Host.TheVariants.{Zero, One}
 use Rattle.case_forms.specs.declared.trace.Header.{Header}
 use Rattle.case_forms.specs.declared.version.Version.{Version}
 use Rattle.spec_network.specs.HostRules.{aim_of}
-use Rattle.spec_network.specs.Hosts.{Aim, ThatHost, ThatSocket, World}
+use Rattle.spec_network.specs.Hosts.{Aim, ThatSocket, World}
 use Rattle.spec_network.specs.Tables.{on, pick}
 use Rattle.window_rules.specs.declared.control.Profile.{Profile}
 use Rattle.spec_tcp.specs.Forgetting.{forget}

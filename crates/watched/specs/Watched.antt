@@ -12,7 +12,6 @@ use Rattle.spec_duties.specs.Observations.{observe, unseen}
 use Rattle.endpoint_state.specs.Worlds.{Progress}
 use Rattle.endpoint_state.specs.declared.fault.StepFault.{StepFault}
 use Rattle.endpoint_state.specs.declared.fault.StepFault.TheVariants.{Broken, OutOfMemory}
-use Rattle.spec_duties.specs.declared.observations.Observation.{Observation}
 use Rattle.spec_duties.specs.Watching.{Duties}
 use Rattle.spec_flights.specs.Flights.{Flights}
 use Rattle.spec_cases.specs.Cases.{Known, Watched}

@@ -210,7 +210,7 @@ fn watch_step<S: ModelStep>(
     match with_refusal(step.apply(world, moment), refusal) {
         Ok(()) => {
             let after = view_in(world, &seen.touched);
-            flights.note(world.header(), seen, &after)?;
+            flights.note(world.header(), moment, seen, &after)?;
             watch(world, duties, moment, seen, &after)
         }
         Err(fault) => Err(fault),
@@ -312,7 +312,7 @@ fn judge_hidden(
         }
         Hidden::Build { host, plan } => {
             let seen = observe_making(world, host, plan, moment);
-            let refusal = flights.refusal(world.header(), &seen);
+            let refusal = flights.refusal(world.header(), moment, &seen);
             watch_step(world, flights, duties, moment, *step, &seen, refusal)
         }
         Hidden::Process { host, line, choice } => {
@@ -321,7 +321,7 @@ fn judge_hidden(
         }
         Hidden::Recover { .. } => {
             let seen = observe_hidden(world, moment, step);
-            let refusal = flights.refusal(world.header(), &seen);
+            let refusal = flights.refusal(world.header(), moment, &seen);
             watch_step(world, flights, duties, moment, *step, &seen, refusal)
         }
         Hidden::Drop { .. } | Hidden::Reset { .. } => {

@@ -18,6 +18,7 @@ ghost use Rattle.spec_duties.specs.declared.observations.BuiltChange.TheVariants
 ghost use Rattle.spec_duties.specs.declared.observations.InboxChange.TheVariants as inbox_change;
 ghost use Rattle.watched.specs.Targets.{taker_at};
 
+use crate::blocks::{blocks_taken, no_blocks};
 use crate::calls::observe_effect;
 use crate::credits::{earns_by_dropping, earns_by_taking};
 use crate::dropped::{
@@ -55,6 +56,7 @@ pub(crate) fn unseen() -> Observation
         sampling: Sampling::Nothing,
         earns: false,
         syn_change: SynChange::Nothing,
+        blocks: no_blocks(),
         call_change: CallChange::Nothing,
         socket_change: SocketChange::Nothing,
     }
@@ -245,6 +247,7 @@ pub(crate) fn observe_taking(
         sampling: sampling_at(version, body, how, m, target),
         earns: earns_by_taking(version, body, m, target),
         syn_change: syn_taken(version, body, m, target),
+        blocks: blocks_taken(version, body, m, target),
         ..unseen()
     }
 }

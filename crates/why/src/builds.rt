@@ -1,5 +1,6 @@
 //! The rules of building segments.
 
+use crate::losses::say_kept;
 use crate::scene::{Building, Scene};
 use crate::states::say_way_out;
 use crate::timers::say_unrestarted;
@@ -73,14 +74,19 @@ pub(crate) fn old_data(
             )
         }
         Reason::Again { .. } | Reason::Beyond { .. } | Reason::Late(_) | Reason::Other => {
-            if scene.header().version.says_sender() {
-                writeln!(
-                    out,
-                    "; sent up to {sent}; no expiry and no fast recovery permits all of it to be sent again"
+            write!(out, "; sent up to {sent}")?;
+            if let Some(standing) = scene.standing {
+                out.push_str("\n")?;
+                say_kept(out, scene.header().grain, standing)?;
+            } else if scene.header().version.says_sender() {
+                out.push_str(
+                    "; no expiry and no fast recovery permits all of it to be sent again\n",
                 )?;
             } else {
-                write!(out, "; sent up to {sent}, may be retransmitted up to ")?;
-                writeln!(out, "{recover} (raised by an expiry or fast recovery)")?;
+                writeln!(
+                    out,
+                    ", may be retransmitted up to {recover} (raised by an expiry or fast recovery)"
+                )?;
             }
             timer_due(out, endpoint, scene.moment())?;
             say_unrestarted(out, scene, endpoint.timers.rto)

@@ -234,7 +234,7 @@ fn of_recovering(
     match rule {
         Rule::NoEndpoint => out.push_str("the endpoint is CLOSED\n"),
         Rule::State => timers::handshake(out, endpoint),
-        Rule::Recovery => timers::recovery(out, endpoint, it, scene.moment()),
+        Rule::Recovery => timers::recovery(out, scene, endpoint, it),
         _ => Ok(()),
     }
 }

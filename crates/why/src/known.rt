@@ -2,6 +2,7 @@
 
 use crate::arrivals::acknowledges_more;
 use crate::builds::is_of_another_state;
+use crate::losses::{is_known_of_beginning, is_known_of_kept};
 use crate::other_windows::say_fitting;
 use crate::scene::{Building, Expiring, Object, Processing, Scene};
 use crate::sendable::sendable_bytes;
@@ -60,8 +61,8 @@ fn is_known(scene: &Scene, known: Known) -> bool {
             _ => known == Known::Processing,
         },
         Object::Listening(..) => matches!(known, Known::Processing | Known::NothingNew),
-        Object::Recovering(_, it) => match it.change {
-            RecoveryChange::Begins => known == Known::NothingOutstanding && is_none,
+        Object::Recovering(endpoint, it) => match it.change {
+            RecoveryChange::Begins => is_known_of_recovery(scene, endpoint, is_none, known),
             RecoveryChange::IsUndone => known == Known::IsUndone,
         },
         Object::Other if scene.builds() => is_known_of_reset(scene, known),
@@ -72,6 +73,14 @@ fn is_known(scene: &Scene, known: Known) -> bool {
         },
         Object::Answered(_, m) => known == Known::ResetAnswered && m.flags.rst,
         Object::End(..) | Object::Came(..) => false,
+    }
+}
+
+// Whether this is known where fast recovery begins. `is_none`: the level is `none`.
+fn is_known_of_recovery(scene: &Scene, endpoint: &Endpoint, is_none: bool, known: Known) -> bool {
+    match scene.standing {
+        Some(standing) => is_known_of_beginning(endpoint.control.values.dup, standing, known),
+        None => known == Known::NothingOutstanding && is_none,
     }
 }
 
@@ -165,8 +174,22 @@ fn is_known_of_built(scene: &Scene, it: Building, is_none: bool, known: Known) -
             is_known_of_reset(scene, known)
         }
         Known::NotRestarted => scene.unrestarted().is_some(),
+        Known::Reported
+        | Known::SentTwice
+        | Known::NotLostYet
+        | Known::TailProbe
+        | Known::NothingLater => match scene.standing {
+            Some(standing) => is_known_of_kept(standing, is_tail(it), known),
+            None => false,
+        },
         _ => is_known_of(it, is_none, known),
     }
+}
+
+// Whether a segment ends with all that was sent.
+fn is_tail(it: Building) -> bool {
+    let fin = u64::from(it.plan.flags.fin);
+    it.endpoint.snd_max() == end_of(it.plan).saturating_add(fin)
 }
 
 // The same for what the endpoint's values show.

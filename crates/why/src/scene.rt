@@ -9,6 +9,7 @@ use case_forms::{
 };
 use duties::Duties;
 use endpoint_state::{Endpoint, World};
+use flights::Standing;
 use replayed::{Case, Debtor, Held, Refusal, Replay, ReplayFault, line_at, socket_of};
 use spec_tcp::{Arrived, Emission, EndpointId};
 use std::alloc::Global;
@@ -87,6 +88,10 @@ impl<'c> Past<'c> {
             },
             debtor: replay.debtor(),
             held: replay.held(),
+            standing: match step {
+                Some(step) => replay.standing(step),
+                None => None,
+            },
         }
     }
 }
@@ -114,6 +119,9 @@ pub(crate) struct Scene<'c> {
     pub debtor: Option<Debtor>,
     /// The segment that was built and is late, if the header has version 6. None: none is.
     pub held: Option<Held>,
+    /// If both SYNs permitted SACK, what the endpoint knows of losses when the step sends data again or begins fast
+    /// recovery, and may not. The header has version 6.
+    pub standing: Option<Standing>,
 }
 
 /// The step that built a segment.

@@ -1,11 +1,13 @@
 //! The rules of expiries and of fast recovery.
 
+use crate::losses::say_loss;
 use crate::scene::{Expiring, Scene};
 use crate::sendable::say_sendable;
 use crate::states::say_way_out;
 use case_forms::{Extras, OutOfMemory, Recovery, RecoveryChange, Timer};
 use endpoint::{greatest_recovery, greatest_values};
 use endpoint_state::Endpoint;
+use flights::Standing;
 use plain_words::word_if;
 
 /// The windows chosen at an expiry of rto, next to the greatest ones.
@@ -139,19 +141,33 @@ pub(crate) fn say_unrestarted(
 /// Why fast recovery may not begin, or not with these windows, or may not be undone.
 pub(crate) fn recovery(
     out: &mut String,
+    scene: &Scene,
     endpoint: &Endpoint,
     it: Recovery,
-    moment: u64,
 ) -> Result<(), OutOfMemory> {
     if it.change == RecoveryChange::IsUndone {
         return out.push_str(
             "no endpoint of the model detects a spurious recovery (RFC 3522, 5682)\n",
         );
     }
-    let (profile, values) = (endpoint.control.profile, &endpoint.control.values);
+    let profile = endpoint.control.profile;
     if !profile.counts_duplicates() {
         return out.push_str("in flight: 0; fast recovery begins only if something is in flight\n");
     }
+    match scene.standing {
+        Some(standing) => say_needed(out, scene.header().grain, endpoint, standing)?,
+        None => say_duplicates(out, endpoint)?,
+    }
+    if profile.bounds_windows() {
+        recovery_windows(out, endpoint, it, scene.moment())
+    } else {
+        Ok(())
+    }
+}
+
+// How many duplicate acknowledgments arrived, where nothing else lets fast recovery begin.
+fn say_duplicates(out: &mut String, endpoint: &Endpoint) -> Result<(), OutOfMemory> {
+    let values = &endpoint.control.values;
     let (dup, flight) = (values.dup, endpoint.flight());
     let fast = if values.fast {
         "in fast recovery already"
@@ -161,12 +177,33 @@ pub(crate) fn recovery(
     writeln!(
         out,
         "duplicate acknowledgments: {dup}, three are needed; in flight: {flight}, {fast}"
-    )?;
-    if profile.bounds_windows() {
-        recovery_windows(out, endpoint, it, moment)
-    } else {
-        Ok(())
+    )
+}
+
+// What lets fast recovery begin if both SYNs permitted SACK.
+fn say_needed(
+    out: &mut String,
+    grain: u64,
+    endpoint: &Endpoint,
+    standing: Standing,
+) -> Result<(), OutOfMemory> {
+    if let Some(upto) = standing.recovers_upto {
+        let una = endpoint.stream.snd_una;
+        return writeln!(
+            out,
+            "the last recovery hasn't ended: it ends once all below {upto} is acknowledged, and SND.UNA is {una}"
+        );
     }
+    let (dup, flight) = (endpoint.control.values.dup, endpoint.flight());
+    writeln!(
+        out,
+        "duplicate acknowledgments: {dup}, three are needed unless something is lost; in flight: {flight}"
+    )?;
+    if 2 < dup {
+        return Ok(());
+    }
+    out.push_str("first in flight: ")?;
+    say_loss(out, grain, standing)
 }
 
 fn recovery_windows(

@@ -1,5 +1,6 @@
 //! Which level, in a header of version 4 or 5, leaves a refusal unjudged.
 
+use crate::losses::may_begin;
 use crate::scene::{Object, Scene};
 use case_forms::{Judged, OutOfMemory, Version};
 use endpoint_state::Endpoint;
@@ -25,10 +26,15 @@ pub(crate) fn say_unjudged(out: &mut String, scene: &Scene, rule: Rule) -> Resul
         | Version::SixHalf => { ("", " in the header") }
     };
     let condition = word_if(rule == Rule::OldData, " if an F step comes first");
+    let stacks = match rule {
+        // Version 6 judges SACK.
+        Rule::OldData | Rule::Recovery if header.version.says_sender() => "",
+        _ => "stacks with CUBIC, BBR, SACK or RACK-TLP do this; ",
+    };
+    write!(out, "{stacks}{before}")?;
     writeln!(
         out,
-        "stacks with CUBIC, BBR, SACK or RACK-TLP do this; {before}`congestion {level}`{after} leaves it \
-unjudged{condition}"
+        "`congestion {level}`{after} leaves it unjudged{condition}"
     )
 }
 
@@ -51,16 +57,20 @@ fn lenient_level(scene: &Scene, rule: Rule) -> Option<Judged> {
             Reason::Again { .. } if it.endpoint.is_up() => Some(Judged::NoControl),
             _ => None,
         },
-        (Control::Retransmission, Object::Recovering(endpoint, _)) => at_recovery(endpoint),
+        (Control::Retransmission, Object::Recovering(endpoint, _)) => at_recovery(scene, endpoint),
         _ => None,
     }
 }
 
 // Something has to be outstanding at every level.
-fn at_recovery(endpoint: &Endpoint) -> Option<Judged> {
+fn at_recovery(scene: &Scene, endpoint: &Endpoint) -> Option<Judged> {
+    let may_recover = match scene.standing {
+        Some(standing) => may_begin(endpoint.control.values.dup, standing),
+        None => endpoint.control.may_recover(),
+    };
     if endpoint.stream.snd_una == endpoint.snd_max() {
         None
-    } else if endpoint.control.may_recover() {
+    } else if may_recover {
         Some(Judged::Recovery)
     } else {
         Some(Judged::NoControl)

@@ -69,7 +69,7 @@ impl Watch {
         requires steps { world.now.steps < most_steps }
         requires small { S.is_small step.now }
     {
-        if let Some(refused) = beside.flights.refusal(world.header(), seen) {
+        if let Some(refused) = beside.flights.refusal(world.header(), self.moment, seen) {
             return Err(earlier(step.admits(world, self.moment), refused));
         }
         let broken = self.broken(world, &beside.duties, seen);
@@ -112,7 +112,7 @@ impl Watch {
         let broken = self.judge(world, beside, &step, seen)?;
         step.apply(world, self.moment)?;
         let now = view_in(world, &seen.touched);
-        beside.flights.note(world.header(), seen, &now)?;
+        beside.flights.note(world.header(), self.moment, seen, &now)?;
         self.note_duties(world, &mut beside.duties, seen, &now)?;
         Ok(broken)
     }

@@ -9,8 +9,9 @@ FIN, SYN, RST, PSH, ACK, URG, CWR = 1, 2, 4, 8, 16, 32, 128
 WRAP = 1 << 32
 # The bytes of a header without options, and of one up to its flags.
 SHORTEST, FLAGS_END = 20, 14
-# Kinds of options: the end of all, padding, the maximum segment size, the window shift, multipath TCP, and Fast Open.
-END, PADDING, SIZE, SHIFT = range(4)
+# Kinds of options: the end of all, padding, the maximum segment size, the window shift, that SACK is permitted, its
+# blocks, multipath TCP, and Fast Open.
+END, PADDING, SIZE, SHIFT, PERMITTED, SACK = range(6)
 MULTIPATH, FAST_OPEN = 30, 34
 # How the usual options after a handshake begin: padding and timestamps, which have 12 bytes together.
 STAMPS = bytes([PADDING, PADDING, 8, 10])

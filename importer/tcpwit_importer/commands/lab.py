@@ -10,7 +10,6 @@ import sys
 from ..files import remove, write_file
 from ..problem import Problem, decoded, not_run, plain
 from ..progress import Part
-from ..trace.header import FULL
 
 TOP = os.path.realpath(f"{__file__}/../../../..")
 NAME, VARIABLE = "tcpwit_lab", "TCPWIT_LAB"
@@ -57,10 +56,10 @@ def case_of(trace):
     return trace.removesuffix(".trace") + ".case"
 
 
-def judge_all(program, traces, options):
-    """Judges trace files from --from or --congestion on, with --slack, prints the lines of each and returns the highest
-    status."""
-    words = ["--least", options.congestion or FULL]
+def judge_all(program, traces, least, options):
+    """Judges trace files with --slack, from --from or the weakest level on whose yes counts, prints the lines of each
+    and returns the highest status."""
+    words = ["--least", least]
     if options.start:
         words += ["--from", options.start]
     if options.slack is not None:

@@ -6,9 +6,10 @@ from ..problem import Problem, named_file
 from ..trace import header as headers
 
 
-def add_version_and_slack(words):
-    """The options for the format version and for the slack."""
-    words.add_argument("--version", type=int, choices=sorted(headers.LINES), help=headers.HELP["version"])
+def add_version_and_slack(words, oldest=min(headers.LINES)):
+    """The options for the format version, which may be this one or a later one, and for the slack."""
+    versions = [version for version in sorted(headers.LINES) if version >= oldest]
+    words.add_argument("--version", type=int, choices=versions, help=headers.HELP["version"])
     words.add_argument("--slack", type=slack, metavar="N", help=headers.HELP["slack"])
 
 
@@ -35,10 +36,19 @@ def add_wire(words):
                        "offload explains the lengths)")
 
 
-def refuse_laxer(start, least, option):
-    """Refuses a first level that is laxer than the weakest one whose yes counts, which this option names."""
-    if start and headers.LEVELS.index(start) > headers.LEVELS.index(least):
-        raise Problem(f"--from {start} is laxer than {option} {least}", "leave out --from, or name a stricter level")
+def weakest(options, level, option):
+    """The weakest level whose yes counts: that of this option, else the strictest of the version. Refuses a level that
+    the version doesn't have, and a first level that is laxer."""
+    strictest = headers.strictest(options.version)
+    for name, given in ((option, level), ("--from", options.start)):
+        if given == headers.FULL != strictest:
+            raise Problem(f"format version {options.version} has no level {given}",
+                          f"leave out --version, or give {name} {strictest}")
+    level = level or strictest
+    if options.start and headers.LEVELS.index(options.start) > headers.LEVELS.index(level):
+        raise Problem(f"--from {options.start} is laxer than {option} {level}",
+                      "leave out --from, or name a stricter level")
+    return level
 
 
 def number_within(least, greatest):

@@ -6,13 +6,13 @@ from typing import Any
 
 from ..capture.segments import window
 from ..infer.opening import is_made_up
-from ..trace.header import LEVELS
+from ..trace import header as headers
 from .wireshark import named, seconds
 
 # The search adds lines of timeouts to a trace, which has only those of hosts that give up.
 OWN = "giveup"
 ADDED = -1
-RTO, PERSIST, RECOVERY, OPENED, ANSWER = "rto", "persist", "recovery", "opened", "answer"
+RTO, PERSIST, RECOVERY, OPENED, ANSWER, FIN = "rto", "persist", "recovery", "opened", "answer", "fin"
 # What permits a retransmission, with a time or a packet.
 REASONS = {
     RTO: "the retransmission timer expired at {} (RFC 6298, 5.4)",
@@ -20,6 +20,12 @@ REASONS = {
     RECOVERY: "three duplicate acknowledgments came, the last one in {} (RFC 5681, 3.2)",
     OPENED: "the closed window opened, in {} (RFC 9293, 3.8.6.1)",
     ANSWER: "a SYN is answered again (RFC 9293, 3.10.7.4)",
+}
+# What else permits one in version 6.
+WITH_SACK = {
+    RECOVERY: "three duplicate acknowledgments or SACK blocks showed a loss, the last ones in {} (RFC 5681, 3.2; RFC "
+              "6675, 5)",
+    FIN: "a FIN without data may be sent again at any time (RFC 9293, 3.10.4)",
 }
 BEFORE = "this retransmission may have been permitted before the capture began"
 UNJUDGED = "this is a retransmission; at level none, it isn't judged whether it's permitted"
@@ -56,10 +62,10 @@ class Witness:
 
     def read_trace(self, case):
         """Reads the header and the events."""
-        self.first, self.level = len(self.trace.head) + 1, LEVELS[0]
-        for _ in self.trace.head:
-            name, value = next(case).split()
-            self.level = value if name == "congestion" else self.level
+        self.first = len(self.trace.head) + 1
+        head = dict(next(case).split() for _ in self.trace.head)
+        self.level = head.get("congestion", headers.FULL)
+        self.has_sack = head.get("trace") == str(headers.WITH_SACK)
         places = count()
         for number, line in enumerate(case, self.first):
             if line.startswith("witness "):
@@ -125,6 +131,12 @@ class Witness:
         cause = endpoint.cause if repeats or (endpoint.is_probing and start < end) else None
         if repeats and not cause and "S" in flags:
             cause = ANSWER, None
+        if repeats and self.has_sack and not endpoint.is_probing:
+            if self.level == headers.NONE:
+                # The witness doesn't have a cause.
+                cause = RECOVERY, None
+            elif "F" in flags and fields[4] == "0":
+                cause = FIN, None
         self.built[len(self.built) + 1] = cause
         endpoint.sent, endpoint.is_probing = max(endpoint.sent, end), False
 
@@ -141,7 +153,7 @@ class Witness:
     def words(self, cause, capture):
         """What permitted a retransmission in this capture."""
         kind, since = cause
-        if kind == RECOVERY and self.level == LEVELS[-1]:
+        if kind == RECOVERY and self.level == headers.NONE:
             return UNJUDGED
         if is_made_up(since):
             return BEFORE
@@ -150,4 +162,5 @@ class Witness:
         else:
             when = since and named(self.captured.place(since), self.captures)
         what = "probe" if kind == PERSIST else "retransmission"
-        return f"this {what} is permitted at level {self.level}: {REASONS[kind].format(when)}"
+        reasons = REASONS | WITH_SACK if self.has_sack else REASONS
+        return f"this {what} is permitted at level {self.level}: {reasons[kind].format(when)}"

@@ -19,7 +19,7 @@ from ..trace import header as headers
 from ..trace.cases import cases_by_listener
 from ..trace.lines import Writer
 from . import lab
-from .options import add_version_and_slack, add_wire, add_words_of_judging, moment, number_within, refuse_laxer
+from .options import add_version_and_slack, add_wire, add_words_of_judging, moment, number_within, weakest
 from .selection import addresses_of, chosen_connections
 
 DESCRIPTION = """Converts captures and system call logs of unmodified programs into traces for tcpwit.
@@ -32,8 +32,8 @@ tcpwit-import prints the trace. With --out, it writes the trace there and judges
 tcpwit_lab judge and saves the case next to the trace. Standard error lists what was left out and which settings were
 chosen.
 
-The status is 0 if the level of --congestion (default: full) or a stricter one has a yes, 1 if none has, 2 for an
-error. Without --out, or with --no-check, it is 0 once the trace is written."""
+The status is 0 if the level of --congestion (default: full; in version 6, recovery) or a stricter one has a yes, 1 if
+none has, 2 for an error. Without --out, or with --no-check, it is 0 once the trace is written."""
 
 
 def parser():
@@ -237,14 +237,14 @@ def write(options, traces):
 
 def import_and_judge(options):
     """Builds, writes and judges the traces, and returns the exit status."""
-    refuse_laxer(options.start, options.congestion or headers.FULL, "--congestion")
+    least = weakest(options, options.congestion, "--congestion")
     program = lab.program(options.lab) if options.out and not options.no_check else None
     notes = Notes()
     files = write(options, run(options, notes))
     if not options.quiet:
         for line in notes.lines():
             say("tcpwit-import", line)
-    return lab.judge_all(program, files, options) if program else 0
+    return lab.judge_all(program, files, least, options) if program else 0
 
 
 def main(words=None):

@@ -18,7 +18,7 @@ from ..trace import header as headers
 from . import lab, standing
 from .annotated import annotate
 from .live import Pool, Reader, Stream, standard_input, watch
-from .options import add_first_level, add_wire, number_within, refuse_laxer, slack
+from .options import add_first_level, add_version_and_slack, add_wire, number_within, weakest
 from .output import Output
 from .verdicts import Judge
 from .workers import Results, terminating
@@ -62,10 +62,11 @@ def parser():
                        help="for a capture between the hosts: how many microseconds a segment needs at most from its "
                        "host to the capture; one that passes later isn't taken for reordered (default: 1000000)")
     add_wire(words)
-    words.add_argument("--level", choices=headers.LEVELS, default=headers.FULL,
-                       help="the weakest level whose yes gives status 0 (default: full)")
+    words.add_argument("--level", choices=headers.LEVELS,
+                       help=f"the weakest level whose yes gives status 0 {headers.STRICTEST}")
     add_first_level(words, "--level")
-    words.add_argument("--slack", type=slack, metavar="N", help=headers.HELP["slack"])
+    # `judge` would rewrite an older trace in this version.
+    add_version_and_slack(words, headers.VERSION)
     words.add_argument("--budget", type=number_within(0, 2**64 - 1), metavar="N",
                        help="how many steps the search spends on going back for one line (default: its own)")
     words.add_argument("--report", type=named_file, metavar="DIR",
@@ -111,13 +112,13 @@ def which(text):
 
 
 def header_values(options):
-    """The header values that the user chose."""
-    chosen = {name: getattr(options, name) for name in (*HELP, "initial")}
-    return {name: value for name, value in (chosen | {"slack": options.slack}).items() if value is not None}
+    """The header values that the user chose, and the version."""
+    chosen = {name: getattr(options, name) for name in (*HELP, "initial", "slack", "version")}
+    return {name: value for name, value in chosen.items() if value is not None}
 
 
 def refuse_words(options):
-    """Refuses options that don't fit each other."""
+    """Refuses options that don't fit each other, and sets the weakest level whose yes counts."""
     if len(options.files) > 2:
         raise Problem(f"{len(options.files)} captures are given", "give the capture of one host, or one of each host")
     if len(set(options.files)) < len(options.files):
@@ -130,7 +131,7 @@ def refuse_words(options):
     if options.between and (options.host or options.slack is not None):
         raise Problem("--between is given with --host or --slack",
                       "leave these out: such a capture shows both hosts, and none of their duties")
-    refuse_laxer(options.start, options.level, "--level")
+    options.level = weakest(options, options.level, "--level")
     if options.annotate:
         refuse_outputs(options)
 

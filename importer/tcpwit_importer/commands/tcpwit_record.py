@@ -16,7 +16,7 @@ from ..recording.recorder import Recording, pair_words
 from ..trace import header as headers
 from . import tcpwit_import
 from . import lab
-from .options import add_version_and_slack, add_words_of_judging, number_within, refuse_laxer
+from .options import add_version_and_slack, add_words_of_judging, number_within, weakest
 
 DESCRIPTION = f"""Records a program's TCP, converts it into a trace, and judges it.
 
@@ -35,8 +35,8 @@ judged with a yes. The programs' own output goes to standard error, unchanged. C
 are saved in the folder --out, instead of those of an earlier recording; files of more than 50 MB are compressed.
 Ctrl-C ends the programs, and what was recorded is judged.
 
-The status is 0 if the level of --congestion (default: full) or a stricter one has a yes, 1 if none has, 2 for an
-error."""
+The status is 0 if the level of --congestion (default: full; in version 6, recovery) or a stricter one has a yes, 1 if
+none has, 2 for an error."""
 
 
 # Programs that the recorder runs, with their packages.
@@ -227,13 +227,13 @@ def written(folder, traces):
     return files
 
 
-def judged(options, program, folder, words):
+def judged(options, program, folder, words, least):
     """Imports, judges and draws what was recorded, and returns the exit status. Says where the files are, also after an
     error."""
     try:
         files = imported(folder, words)
         folder.compress(".pcap", ".log")
-        status = lab.judge_all(program, files, options) if program else 0
+        status = lab.judge_all(program, files, least, options) if program else 0
         for trace in files.values() if program else ():
             lab.draw(program, trace)
         folder.compress(".trace", ".case", ".svg")
@@ -252,7 +252,7 @@ def record(options):
     if os.geteuid() != 0:
         raise Problem("captures and network namespaces need root",
                       "sudo tcpwit-record ..: the program itself runs as you")
-    refuse_laxer(options.start, options.congestion or headers.FULL, "--congestion")
+    least = weakest(options, options.congestion, "--congestion")
     words = header_words(options)
     refuse_unknown_user(options)
     program = program_that_judges(options)
@@ -265,7 +265,7 @@ def record(options):
     # The import may have failed because a program failed.
     for remark in recording.remarks:
         say(NAME, remark)
-    return judged(options, program, recording.folder, files + words)
+    return judged(options, program, recording.folder, files + words, least)
 
 
 def main(given=None):

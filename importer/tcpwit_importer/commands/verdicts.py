@@ -34,10 +34,12 @@ from .wireshark import Captured, named, placed
 # What the line of a verdict has after its first word.
 NUMBERS = {"yes": ("lines", "hidden"), "no": ("rule",)}
 # The rules by which `judge` says that no duty was late, each time with those that judge inferred calls: all but 48,
-# start-late.
+# start-late, and 57, answer-late.
 RULES = {"(rules 40 to 52)": "(rules 40 to 47 and 49 to 52)",
          "(rules 40 to 50 and 52)": "(rules 40 to 47, 49, 50 and 52)",
-         "(rules 40 to 49 and 52)": "(rules 40 to 47, 49 and 52)"}
+         "(rules 40 to 49 and 52)": "(rules 40 to 47, 49 and 52)",
+         "(rules 40 to 50, 52, 56 and 57)": "(rules 40 to 47, 49, 50, 52 and 56)",
+         "(rules 40 to 49, 52, 56 and 57)": "(rules 40 to 47, 49, 52 and 56)"}
 # What it says of a trace with a fault: the line and the kind. Only moments are numbers that may be too large.
 FAULT, TOO_LONG, NUMBER = re.compile(r"bad trace (\d+) \d+ \d+ (.+)"), "too-many-lines", "number"
 # The strictest level of a connection that began before the capture: its congestion window isn't known.

@@ -6,16 +6,15 @@ Positions are sequence numbers that don't wrap.
 from array import array
 from collections import deque
 
-from ..capture.segments import FIN, SYN, WRAP, listed, options
+from ..capture.segments import FIN, SACK, SYN, WRAP, listed, options
 from .ranges import Holes, Ranges
 
 # Why a segment was sent again.
 TIMEOUT, FAST, TAIL_PROBE, ANSWER, UNNEEDED = CAUSES = ("timeout", "fast", "tail_probe", "answer", "unneeded")
 # What other segments are.
 OUT_OF_ORDER, KEEP_ALIVE, WINDOW_PROBE = "out_of_order", "keep_alives", "window_probes"
-# The kind of the option with received ranges (RFC 2018, 3), and how many duplicate acknowledgments show a loss (RFC
-# 5681, 3.2).
-SACK, THREE = 5, 3
+# How many duplicate acknowledgments show a loss (RFC 5681, 3.2).
+THREE = 3
 # A retransmission that an acknowledgment causes passes the capture at most a round trip after it. So many nanoseconds
 # are added, since later ones may take longer; a timer needs more.
 LATER = 10**8

@@ -14,6 +14,8 @@ from .state import answer_to_syn, both_ends, seen_by
 # Nanoseconds before the first captured packet, and the shortest and the longest round trip that is made up for one
 # that is seen.
 MARGIN, SHORT, LONG = 20 * 10**6, 10**6, 10**9
+# How much shorter than wanted a timeout may be, in nanoseconds.
+TOLERANCE = 10**7
 # The longest time for which a SYN may be unacknowledged without being sent again, in nanoseconds.
 FIRST = 3 * 10**9
 # The most bytes of a segment on Ethernet, if no offload enlarged it; and of any segment.
@@ -61,8 +63,9 @@ def timings(connection, captures, ends, least):
         return
     for longer, since in [(max(trips, default=0), 0), *pauses(own, ends)]:
         if longer > timeout:
+            found = trips_of_closed(longer) if closed else trips_for(longer, least)
             # A closed window may be probed once the timeout has passed.
-            yield trips_for(longer, least), max(MARGIN, longer * (3 if closed else 1) - since)
+            yield found, max(MARGIN, longer * (3 if closed else 1) - since)
 
 
 def pauses(own, ends):
@@ -82,6 +85,11 @@ def trips_for(timeout, least):
         trip = (low + high) // 2
         low, high = (trip, high) if growing(trip, least)[1] <= timeout else (low, trip)
     return growing(low, least)[0]
+
+
+def trips_of_closed(timeout):
+    """The same if a window is closed: the other end then measures only the handshake, and one round trip more."""
+    return [min((timeout - TOLERANCE) * 2 // 5, FIRST * 9 // 10)] * (ROUNDS + 1)
 
 
 def growing(trip, least):

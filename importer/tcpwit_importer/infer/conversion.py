@@ -21,8 +21,9 @@ MOST_SKEW = headers.LIMITS["skew"][1] * 1000
 
 class Trace:
     """A connection's trace. `captures` maps the recorded hosts to the names of their captures, or None to the one of
-    both hosts; `last` has the moment of each capture's last packet. `clock` is used if the connection alone doesn't
-    show how the clocks differ. With `gives_up`, a host that may have given up did."""
+    both hosts; `last` has the moment of each capture's last packet; `chosen` has the header values that the user chose,
+    and perhaps the version. `clock` is used if the connection alone doesn't show how the clocks differ. With
+    `gives_up`, a host that may have given up did."""
 
     def __init__(self, connection, captures, last, chosen, notes, clock=SAME, gives_up=False):
         put_in_order(connection, captures, notes)
@@ -43,7 +44,9 @@ class Trace:
         self.may_differ, self.captures, self.clock = script.has_expiries, captures, clock
         self.connection = connection
         hosts = 1 if list(captures) == [0] else 2
-        self.head = headers.header(hosts, (clock.skew + 999) // 1000, {"extra": ROOM} | chosen)
+        chosen = {"extra": ROOM} | chosen
+        version = chosen.pop("version", None)
+        self.head = headers.header(hosts, (clock.skew + 999) // 1000, chosen, version)
         ended = min(clock.at(moment) if host == 1 else moment for host, moment in last.items())
         self.writer = InferredWriter(connection, script, streams, captures, clock, ended, notes)
 

@@ -9,7 +9,7 @@ import struct
 
 from ..capture.connections import Connection
 from ..capture.packets import Packet
-from ..capture.segments import ACK, SHIFT, SIZE, SYN, WRAP, options, values
+from ..capture.segments import ACK, PADDING, PERMITTED, SACK, SHIFT, SIZE, SYN, WRAP, listed, options, values
 from .before import near
 from .state import answer_to_syn
 from .streams import streams_of
@@ -132,10 +132,15 @@ class Wire:
             each = min([stop, self.sent[end] + self.size, *limits])
             yield self.segment(end, each), each
 
-    def syn_options(self, end, scales=True):
-        """The options of an end's SYN."""
+    def syn_options(self, end, scales, permits):
+        """The options of an end's SYN, which may scale windows, and permit SACK."""
         size = struct.pack("!BBH", SIZE, 4, self.size)
-        return size + (bytes((SHIFT, 3, self.ends[end].shift, 1)) if scales else b"")
+        scale = bytes((SHIFT, 3, self.ends[end].shift, PADDING)) if scales else b""
+        return size + scale + (bytes((PERMITTED, 2, PADDING, PADDING)) if permits else b"")
+
+    def has_blocks(self):
+        """Whether an end reports by blocks what it received: then both SYNs permitted that (RFC 2018, 2)."""
+        return any(kind == SACK for packet in self.connection.packets() for kind, _ in listed(options(packet.segment)))
 
     def packets(self, name, at):
         """The packets of a capture. `at` says when a moment of a line is by its clock."""
@@ -180,8 +185,9 @@ class Beginning:
     def shake_hands(self):
         """The three segments of the handshake."""
         client, server = self.order
+        permits = self.wire.has_blocks()
         for end, flags in ((client, SYN), (server, SYN | ACK)):
-            self.wire.carry(end, self.wire.sent[end] + 1, flags, self.wire.syn_options(end))
+            self.wire.carry(end, self.wire.sent[end] + 1, flags, self.wire.syn_options(end, True, permits))
         self.wire.acknowledge(client)
 
     def single_bytes(self, end):
@@ -254,7 +260,8 @@ class AfterSyn:
         client, server = answer.target, answer.source
         wire.start({client: near((answer.acknowledgment - 1) % WRAP, wire.ends[client].low),
                     server: near(answer.number, wire.ends[server].low)})
-        given = wire.syn_options(client, bool(values(SHIFT, 1, options(answer.segment))))
+        scales, permits = values(SHIFT, 1, options(answer.segment)), values(PERMITTED, 0, options(answer.segment))
+        given = wire.syn_options(client, bool(scales), bool(permits))
         wire.carry(client, wire.sent[client] + 1, SYN, given)
         if self.lacks(server):
             wire.out(server, answer.segment, answer)

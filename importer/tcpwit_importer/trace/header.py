@@ -3,13 +3,16 @@ from ..problem import Problem
 
 # The version of a trace, unless the user chooses another.
 VERSION = 5
+# The version that reads SACK blocks. It doesn't judge congestion windows yet, so it has no level `full`.
+WITH_SACK = 6
 KERNEL = "plain"
 
 # The levels: how much of congestion control is judged, from all of it down to nothing.
-FULL = "full"
-LEVELS = (FULL, "recovery", "none")
+FULL, RECOVERY, NONE = LEVELS = ("full", "recovery", "none")
+STRICTEST = f"(default: {FULL}; in version {WITH_SACK}, {RECOVERY})"
+# The sender and its growth are Linux's. They have an effect only at `full`.
 VALUES = {"skew": 0, "msl": 60_000_000, "grain": 4000, "minrto": 200_000, "extra": 1, "initial": 6928,
-          "congestion": FULL, "slack": 1_000_000}
+          "slack": 1_000_000, "sender": "cubic", "growth": "any"}
 ANY = "any"
 GREATEST_SLACK = 10**18
 LIMITS = {"skew": (0, 10**9), "msl": (1, 3_600_000_000), "grain": (0, 60_000_000), "minrto": (0, 60_000_000),
@@ -22,10 +25,10 @@ HELP = {
     "minrto": "minimum retransmission timeout, in microseconds",
     "extra": "children that a listen queue holds beyond its backlog",
     "initial": "RFC of the initial congestion window",
-    "congestion": f"how much of congestion control is judged (default: {FULL})",
+    "congestion": f"how much of congestion control is judged {STRICTEST}",
     "slack": f"how late a host may be with its duties, in microseconds; {ANY}: duties aren't judged "
              f"(default: {VALUES['slack']})",
-    "version": f"format version (default: {VERSION})",
+    "version": f"format version (default: {VERSION}); {WITH_SACK} reads SACK blocks, and has no level {FULL}",
 }
 LINES = {
     1: ("skew", "msl", "grain", "minrto", "extra"),
@@ -33,7 +36,13 @@ LINES = {
     3: ("skew", "msl", "grain", "minrto", "extra", "initial", "half"),
     4: ("skew", "msl", "grain", "minrto", "extra", "initial", "hosts", "congestion"),
     5: ("skew", "msl", "grain", "minrto", "extra", "initial", "hosts", "congestion", "slack"),
+    6: ("skew", "msl", "grain", "minrto", "extra", "initial", "hosts", "congestion", "slack", "sender", "growth"),
 }
+
+
+def strictest(version=None):
+    """The strictest level of a version."""
+    return RECOVERY if version == WITH_SACK else FULL
 
 
 def header(hosts, skew, chosen, version=None):
@@ -46,7 +55,7 @@ def header(hosts, skew, chosen, version=None):
     if hosts == 2 and version == 3:
         raise Problem("format version 3 is for one recorded host", "leave out --version, or give only files of host 0",
                       "leave out --version")
-    values = VALUES | {"skew": skew, "half": 0, "hosts": hosts} | chosen
+    values = VALUES | {"skew": skew, "half": 0, "hosts": hosts, "congestion": strictest(version)} | chosen
     unknown = [name for name in chosen if name not in LINES[version]]
     if unknown:
         raise Problem(f"format version {version} has no line {unknown[0]}", f"leave out --{unknown[0]}, or --version")

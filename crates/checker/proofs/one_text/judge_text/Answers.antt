@@ -1,7 +1,5 @@
-use Rattle.std.proofs.Common.{◌≡◌, ℕ, List, Option, Some, Ok, Err, Result, ap, subst, sym, ◌∙◌}
+use Rattle.std.proofs.Common.{◌≡◌, ℕ, List, Option, Some, Ok, Err, ap, subst, sym, ◌∙◌}
 use Rattle.std.specs.Option.{option_map, IfSome}
-use Rattle.case_forms.specs.declared.trace.Trace.{Trace}
-use Rattle.case_forms.specs.declared.steps.Step.{Step}
 use Rattle.counted.specs.declared.ends.Counted.{Counted}
 use Rattle.counted.specs.Counting.{left_of}
 use Rattle.line_fields.specs.declared.fault.TextFault.{TextFault}

@@ -1,6 +1,4 @@
-use Rattle.std.proofs.Common.{◌≡◌, ◌-◌, List, [], None}
-use Rattle.case_forms.specs.declared.trace.Line.{Line}
-use Rattle.trace_reader.specs.TraceText.{first_place}
+use Rattle.std.proofs.Common.{◌≡◌, ◌-◌, [], None}
 use Rattle.case_lines.specs.CaseLines.{KeepsWitness}
 use Rattle.trace_reader.specs.TraceLeft.{kept_of, place_of, fault_of, reader_failures, AreAt, IsBegun, lines_left, rows_behind}
 use Rattle.trace_reader.specs.TraceLeft.{place_behind}

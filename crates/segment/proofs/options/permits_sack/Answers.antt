@@ -1,4 +1,4 @@
-use Rattle.std.proofs.Common.{List, ℕ, Some, ap, ◌≡◌, subst}
+use Rattle.std.proofs.Common.{List, ℕ, Some, ◌≡◌, subst}
 use Rattle.std.specs.List.{list_any}
 use Rattle.std.specs.Option.{option_map}
 use Rattle.segment.specs.Layout.{options_of}

@@ -17,8 +17,8 @@ returns-in_ok-note-in-Ok-clause-ok g c =
     (c.apply.new.world ≡ after c.args.world.now c.args.moment (g.S.ModelStep.step c.args.step)) c.apply.ensures.ok)
     c.requires.seen
     (c.in_ok-note-in-Ok.ensures
-    ∙ ap (λ (h : Header). flights_after h c.view_in-after.result c.args.seen.now c.args.flights.now) c.header.ensures
-    ∙ ap (λ (v : View). flights_after c.apply.new.world.header v c.args.seen.now c.args.flights.now) c.view_in-after.ensures)
+    ∙ ap (λ (h : Header). flights_after h c.args.moment c.view_in-after.result c.args.seen.now c.args.flights.now) c.header.ensures
+    ∙ ap (λ (v : View). flights_after c.apply.new.world.header c.args.moment v c.args.seen.now c.args.flights.now) c.view_in-after.ensures)
     c.watch.ensures.ok
 
 pub returns-in_ok-note-in-Ok-clause-admitted : goal.returns-in_ok-note-in-Ok-clause-admitted

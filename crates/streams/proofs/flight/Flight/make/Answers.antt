@@ -1,4 +1,4 @@
-use Rattle.std.proofs.Common.{◌+◌, ◌≤◌, ◌∙◌, ap, sym, subst, length, arith, List, ℕ}
+use Rattle.std.proofs.Common.{◌≤◌, ◌∙◌, ap, sym, subst, length, arith, List, ℕ}
 use Rattle.std.specs.Prelude.{Option}
 use Rattle.streams.specs.declared.outstanding.Outstanding.{Outstanding}
 use Rattle.streams.specs.Pieces.{Adjoin, acknowledged, made}
@@ -31,11 +31,11 @@ fits c =
 pub invariant_of-self-2 : goal.invariant_of-self-2
 invariant_of-self-2 c =
     subst (λ (n : ℕ). Adjoin c.self.inside.snd_una n c.make.new.pieces.entries) (sym c.max-self-inside.ensures)
-    (c.in_ok-make.ensures.made c.self.inside.snd_una c.self.invariant (low c) (omega arith)).1
+    (c.in_ok-make.ensures.made c.self.inside.snd_una c.self.invariant (low c) c.requires.order).1
 
 pub returns-clause-ok : goal.returns-clause-ok
 returns-clause-ok c =
-    known_made c.self.inside.pieces.entries c.make.new.pieces.entries c.self.inside.snd_una c.self.inside.end c.args.position (c.args.position + c.args.count)
-    c.args.number c.args.moment c.self.invariant (low c) (fits c) (omega arith)
-    (c.in_ok-make.ensures.made c.self.inside.snd_una c.self.invariant (low c) (omega arith)).0
-    ∙ ap (λ (xs : List (Option Outstanding)). made c.args.position (c.args.position + c.args.count) c.args.number c.args.moment xs) c.self.view_is
+    known_made c.self.inside.pieces.entries c.make.new.pieces.entries c.self.inside.snd_una c.self.inside.end c.args.position c.args.upto
+    c.args.number c.args.moment c.self.invariant (low c) (fits c) c.requires.order
+    (c.in_ok-make.ensures.made c.self.inside.snd_una c.self.invariant (low c) c.requires.order).0
+    ∙ ap (λ (xs : List (Option Outstanding)). made c.args.position c.args.upto c.args.number c.args.moment xs) c.self.view_is

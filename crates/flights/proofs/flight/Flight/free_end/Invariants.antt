@@ -1,0 +1,11 @@
+use Rattle.std.proofs.Common.{◌-◌, ◌≡◌, ◌≤◌, true}
+use Rattle.std.specs.List.{list_all}
+use Rattle.streams.specs.Ranges.{positions}
+use Rattle.spec_flights.specs.Flights.{is_free}
+use Rattle.flights.proofs.flight.Flight.free_end.Given as goal
+
+abbrev pub invariant-loop-at : goal.invariant-loop-at
+invariant-loop-at l = (l.old.from ≤ l.at) × (list_all (is_free l.below l.self) (positions l.old.from l.at) ≡ true)
+
+abbrev pub decreases-loop-at : goal.decreases-loop-at
+decreases-loop-at l = l.old.upto - l.at

@@ -1,0 +1,159 @@
+//! What an endpoint knows of a position that it sent, to explain a step that is refused.
+
+ghost use Rattle.std.specs.Prelude.{◌≡◌, ◌<◌, true, false, nat_lt};
+ghost use Rattle.std.specs.List.{list_all};
+ghost use Rattle.streams.specs.Ranges.{positions};
+ghost use Rattle.spec_flights.specs.Flights.{is_free};
+ghost use Rattle.spec_flights.specs.Late.{resent_below};
+ghost use Rattle.flights.specs.declared.standing.Loss.TheVariants as loss;
+
+use crate::flight::{Flight, goes_again};
+use crate::marks::old_part;
+use crate::recovering::is_recovering;
+use crate::scoreboard::Scoreboard;
+use crate::sides::are_selective;
+use case_forms::SegmentPlan;
+use spec_duties::{Event, View};
+use spec_flights::Stretch;
+use streams::{Outstanding, next_run};
+
+/// Whether a position that is in flight counts as lost.
+#[derive(Clone, Copy)]
+pub enum Loss {
+    /// It does, or it was given up.
+    Lost,
+    /// Something that was built later was delivered, so it will. Both times are in microseconds.
+    Later {
+        /// The round trip by which it is expected.
+        round_trip: u64,
+        /// How much later than that it may be delivered.
+        reordering: u64,
+    },
+    /// Nothing that was built later was delivered.
+    Unknown,
+}
+
+/// What an endpoint knows of a position that it sent.
+#[derive(Clone, Copy)]
+pub enum Fate {
+    /// The peer reported it as received.
+    Told,
+    InFlight {
+        /// When it was built last, in microseconds.
+        moment: u64,
+        /// Whether it was built before that.
+        again: bool,
+        loss: Loss,
+    },
+}
+
+/// What an endpoint for which both SYNs permitted selective acknowledgments knows of losses at a refused step.
+#[derive(Clone, Copy)]
+pub struct Standing {
+    /// The position up to which it recovers from a loss. None: it doesn't recover.
+    pub recovers_upto: Option<u64>,
+    /// The first position of the segment that may not be sent again. If fast recovery begins: the first one in flight.
+    pub position: u64,
+    pub fate: Fate,
+}
+
+impl Scoreboard {
+    fn loss_of(&self, recovers: bool, clock: u128, x: &Outstanding) -> Loss
+        ensures lost { nat_lt x.now.number (resent_below recovers clock self.now) ≡ true → result ≡ loss.Lost }
+        ensures only { result ≡ loss.Lost → nat_lt x.now.number (resent_below recovers clock self.now) ≡ true }
+    {
+        if x.number < self.resent_below(recovers, clock) {
+            return Loss::Lost;
+        }
+        match self.latest {
+            Some(latest) if x.number < latest.number => Loss::Later {
+                round_trip: latest.round_trip,
+                reordering: self.reordering_time(),
+            },
+            Some(_) | None => Loss::Unknown,
+        }
+    }
+
+    // None: the position isn't outstanding.
+    fn fate_of(&self, recovers: bool, clock: u128, position: u64) -> Option<Fate> {
+        if self.told.holds(position) {
+            return Some(Fate::Told);
+        }
+        let run = next_run(
+            &self.known,
+            &self.told,
+            position,
+            position.saturating_add(1),
+        )?;
+        Some(Fate::InFlight {
+            moment: run.state.moment,
+            again: run.state.again,
+            loss: self.loss_of(recovers, clock, &run.state),
+        })
+    }
+
+    // The first position in flight. None: none is.
+    fn first_in_flight(&self, v: &View) -> Option<u64> {
+        Some(next_run(&self.known, &self.told, v.snd_una, v.snd_max)?.from)
+    }
+}
+
+impl Flight {
+    // The position after the first ones that may be sent again; not below `upto` if all may.
+    fn free_end(&self, below: u64, old: Stretch) -> u64
+        ensures free { list_all (is_free below self.now) (positions old.from result) ≡ true }
+        ensures kept { result < old.upto → is_free below self.now result ≡ false }
+    {
+        let mut at = old.from;
+        while at < old.upto {
+            let Some(next) = self.free_upto(below, at, old.upto) else {
+                return at;
+            };
+            at = next;
+        }
+        at
+    }
+
+    // The first position of a segment that may not be sent again. None: all may, or the segment isn't judged here.
+    fn first_kept(&self, clock: u128, v: &View, plan: &SegmentPlan) -> Option<u64> {
+        if !goes_again(v, plan) {
+            return None;
+        }
+        let old = old_part(v, plan);
+        let end = self.free_end(self.free_below(clock, v), old);
+        if end < old.upto { Some(end) } else { None }
+    }
+
+    // The position that decides whether a step is refused. None: none does.
+    fn decisive(&self, clock: u128, event: &Event, v: &View) -> Option<u64> {
+        match event {
+            Event::Builds(plan) => self.first_kept(clock, v, plan),
+            Event::Recovers => self.board.first_in_flight(v),
+            Event::Opens
+            | Event::Calls { .. }
+            | Event::Processes { .. }
+            | Event::Drops { .. }
+            | Event::Sends(_)
+            | Event::Expires(_) => None,
+        }
+    }
+
+    /// What the endpoint knows of losses at a step that is refused. None: the step isn't refused for them, or one of
+    /// the two SYNs didn't permit selective acknowledgments.
+    pub(crate) fn standing(&self, clock: u128, event: &Event, v: &View) -> Option<Standing> {
+        if !are_selective(self.sides) {
+            return None;
+        }
+        let position = self.decisive(clock, event, v)?;
+        let recovers = is_recovering(v, self.recovery);
+        Some(Standing {
+            recovers_upto: if recovers {
+                Some(self.recovery.point)
+            } else {
+                None
+            },
+            position,
+            fate: self.board.fate_of(recovers, clock, position)?,
+        })
+    }
+}

@@ -1,0 +1,89 @@
+//! What is known of outstanding positions after a step.
+
+ghost use Rattle.std.specs.Prelude.{◌≡◌, OnOk};
+ghost use Rattle.spec_flights.specs.Flights.{board_after, board_heard, board_opened};
+
+use crate::marks::{opens_probed, stretch_built};
+use crate::scoreboard::Scoreboard;
+use case_forms::{OutOfMemory, Timer};
+use spec_duties::{Event, TouchedEndpoint, View};
+use spec_flights::{Reports, Stretch};
+
+/// When a step is done.
+#[derive(Clone, Copy)]
+pub(crate) struct Now {
+    /// The moment, in microseconds.
+    pub(crate) moment: u64,
+    /// The moment, and how far a clock may be wrong.
+    pub(crate) clock: u128,
+    /// Whether the endpoint recovered from a loss before the step.
+    pub(crate) recovers: bool,
+}
+
+impl Scoreboard {
+    // A segment is processed.
+    fn hear_segment(
+        &mut self,
+        now: Now,
+        rst: bool,
+        before: &View,
+        after: &View,
+        r: &Reports,
+    ) -> Result<(), OutOfMemory>
+        ensures { OnOk result (self.new
+            ≡ board_heard now.moment now.clock now.recovers rst before.now after.now r.now self.old) }
+    {
+        if rst || before.state.is_syn_sent() {
+            self.known.forget_below(after.snd_una);
+            return Ok(());
+        }
+        self.settle(now.recovers, now.clock);
+        let acked = Stretch {
+            from: before.snd_una,
+            upto: after.snd_una,
+        };
+        self.hear(now.moment, acked, r)
+    }
+
+    // The window may open.
+    fn open(&mut self, before: &View, after: &View)
+        ensures { self.new ≡ board_opened before.now after.now self.old }
+    {
+        if opens_probed(before, after) {
+            self.give_up();
+        }
+    }
+
+    /// Takes a step; a segment that it builds has this number. If memory runs out, nothing of it is of use any more.
+    pub(crate) fn note(
+        &mut self,
+        now: Now,
+        number: u32,
+        touched: &TouchedEndpoint,
+        after: &View,
+        r: &Reports,
+    ) -> Result<(), OutOfMemory>
+        ensures { OnOk result (self.new ≡ board_after now.moment now.clock now.recovers number touched.now.event
+            touched.now.before after.now r.now self.old) }
+    {
+        let before = &touched.before;
+        match touched.event {
+            Event::Processes { rst, .. } => {
+                self.hear_segment(now, rst, before, after, r)?;
+                self.open(before, after);
+            }
+            Event::Builds(plan) => {
+                self.settle(now.recovers, now.clock);
+                self.build(number, now.moment, stretch_built(&plan, before, after))?;
+            }
+            Event::Expires(Timer::Rto | Timer::Persist) => self.give_up(),
+            Event::Recovers => self.settle(now.recovers, now.clock),
+            Event::Opens
+            | Event::Calls { .. }
+            | Event::Drops { .. }
+            | Event::Sends(_)
+            | Event::Expires(Timer::Msl2 | Timer::Giveup | Timer::Pto) => {}
+        }
+        Ok(())
+    }
+}

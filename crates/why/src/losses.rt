@@ -1,0 +1,103 @@
+//! What an endpoint knows of losses if both SYNs permitted SACK.
+
+use case_forms::OutOfMemory;
+use flights::{Fate, Loss, Standing};
+use plain_words::{Known, word_if};
+
+/// Why a position may not be sent again.
+pub(crate) fn say_kept(out: &mut String, grain: u64, it: Standing) -> Result<(), OutOfMemory> {
+    let position = it.position;
+    if let Fate::Told = it.fate {
+        return writeln!(
+            out,
+            "the peer's SACK blocks report position {position}; only a later expiry permits sending it again"
+        );
+    }
+    if it.recovers_upto.is_none() {
+        out.push_str("no recovery is going on: an F step or an expiry has to come first\n")?;
+    }
+    say_loss(out, grain, it)
+}
+
+/// Whether a position in flight counts as lost, and from when on it does.
+pub(crate) fn say_loss(out: &mut String, grain: u64, it: Standing) -> Result<(), OutOfMemory> {
+    let Fate::InFlight {
+        moment,
+        again,
+        loss,
+    } = it.fate
+    else {
+        return Ok(());
+    };
+    let (position, again) = (it.position, word_if(again, " again"));
+    write!(out, "position {position} was built{again} at {moment}")?;
+    match loss {
+        Loss::Lost => out.push_str(", and counts as lost\n"),
+        Loss::Later {
+            round_trip,
+            reordering,
+        } => say_later(out, grain, moment, round_trip, reordering),
+        Loss::Unknown => writeln!(
+            out,
+            "; nothing built later was delivered, so it doesn't count as lost{again}"
+        ),
+    }
+}
+
+fn say_later(
+    out: &mut String,
+    grain: u64,
+    moment: u64,
+    round_trip: u64,
+    reordering: u64,
+) -> Result<(), OutOfMemory> {
+    let from = moment
+        .saturating_add(round_trip)
+        .saturating_add(reordering)
+        .saturating_sub(grain);
+    write!(
+        out,
+        "; it counts as lost once SACK blocks report three whole segments, or from {from} on "
+    )?;
+    writeln!(
+        out,
+        "= {moment} + round trip {round_trip} + reordering {reordering} - grain {grain}"
+    )
+}
+
+/// Whether fast recovery may begin after this many duplicate acknowledgments.
+pub(crate) fn may_begin(duplicates: u32, it: Standing) -> bool {
+    let is_lost = matches!(
+        it.fate,
+        Fate::InFlight {
+            loss: Loss::Lost,
+            ..
+        }
+    );
+    it.recovers_upto.is_none() && (2 < duplicates || is_lost)
+}
+
+/// Whether this is known of a position that may not be sent again. `tail`: its segment ends with all that was sent.
+pub(crate) fn is_known_of_kept(it: Standing, tail: bool, known: Known) -> bool {
+    match it.fate {
+        Fate::Told => known == Known::Reported,
+        Fate::InFlight { again, loss, .. } => match loss {
+            Loss::Lost => false,
+            Loss::Later { .. } => known == Known::NotLostYet,
+            Loss::Unknown => match it.recovers_upto {
+                Some(_) if again => known == Known::SentTwice,
+                None if tail => known == Known::TailProbe,
+                Some(_) | None => known == Known::NothingLater,
+            },
+        },
+    }
+}
+
+/// Whether this is known where fast recovery may not begin after this many duplicate acknowledgments.
+pub(crate) fn is_known_of_beginning(duplicates: u32, it: Standing, known: Known) -> bool {
+    match known {
+        Known::StillRecovers => it.recovers_upto.is_some(),
+        Known::NotLostYet => duplicates < 3 && is_known_of_kept(it, false, known),
+        _ => false,
+    }
+}
