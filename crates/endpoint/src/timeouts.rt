@@ -5,7 +5,7 @@ ghost use Rattle.spec_tcp.specs.Bounds.{HasRoom};
 ghost use Rattle.spec_tcp.specs.Calls.Close.{shut_down};
 ghost use Rattle.spec_tcp.specs.Forgetting.{forget_endpoint};
 ghost use Rattle.spec_tcp.specs.Timeouts.{expiry_rules, grows_above, is_above, is_off, greatest_values, has_more};
-ghost use Rattle.spec_tcp.specs.Timeouts.{may_give_up, after_expiry, after_rto, after_persist};
+ghost use Rattle.spec_tcp.specs.Timeouts.{may_give_up, may_probe, after_expiry, after_rto, after_persist};
 ghost use Rattle.spec_tcp.specs.declared.endpoint.Fault.TheVariants.{Timeout};
 ghost use Rattle.std.specs.Prelude.{◌≡◌, ◌≢◌, ◌<◌, ◌+◌, ◌^◌, ◌&&◌, true, Some};
 ghost use Rattle.std.specs.Result.{result_err};
@@ -84,7 +84,7 @@ fn is_off(endpoint: &Endpoint, timer: Timer) -> bool
         }
         Timer::Msl2 => endpoint.timers.msl_armed.is_none(),
         Timer::Giveup => !may_give_up(endpoint),
-        Timer::Pto => true,
+        Timer::Pto => !may_probe(endpoint),
     }
 }
 
@@ -98,6 +98,12 @@ pub fn has_more(endpoint: &Endpoint) -> bool
     } else {
         endpoint.stream.snd_una < end
     }
+}
+
+fn may_probe(endpoint: &Endpoint) -> bool
+    ensures { result ≡ may_probe endpoint.now }
+{
+    endpoint.is_up() && endpoint.stream.snd_una < endpoint.snd_max()
 }
 
 fn may_give_up(endpoint: &Endpoint) -> bool
@@ -132,7 +138,8 @@ fn is_refused_early(timers: &Timers, timer: Timer, moment: u64, header: &Header)
 
 /// A timer expires at a moment in microseconds. After the retransmission timer, the congestion window and the slow
 /// start threshold are the chosen ones, in bytes, and all that was sent may be retransmitted. After the persist timer,
-/// a probe is due. Otherwise, the wait in TIME-WAIT is over, or the endpoint gives up and a reset is due.
+/// a probe is due. A timer that probes for a loss rearms the retransmission timer if that is armed (RFC 8985, 7.3).
+/// Otherwise, the wait in TIME-WAIT is over, or the endpoint gives up and a reset is due.
 pub fn expire(endpoint: &mut Endpoint, expired: Expired, moment: u64)
     requires { HasRoom endpoint.old }
     ensures { endpoint.new ≡ forget_endpoint (after_expiry endpoint.old expired moment) }
@@ -142,7 +149,7 @@ pub fn expire(endpoint: &mut Endpoint, expired: Expired, moment: u64)
         Expired::Persist => expire_persist(endpoint, moment),
         Expired::Msl2 => shut_down(endpoint),
         Expired::Giveup => give_up(endpoint),
-        Expired::Pto => {}
+        Expired::Pto => endpoint.timers.rearm(moment),
     }
 }
 

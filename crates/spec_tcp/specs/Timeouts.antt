@@ -43,13 +43,17 @@ may_give_up e =
     (nat_lt e.stream.snd_una (snd_max e) || is_some e.timers.persist_armed) && nat_le 3 e.unanswered_expiries
     || e.closed && is_fin_wait_2 e.state
 
--- the timer is off, or its conditions are not met; no endpoint probes for a loss (RFC 8985, 7)
+-- something was sent and is unacknowledged, at an endpoint that is up: a loss can be probed for (RFC 8985, 7.2)
+abbrev pub may_probe : Endpoint → Bool
+may_probe e = is_up e && nat_lt e.stream.snd_una (snd_max e)
+
+-- the timer is off, or its conditions are not met
 abbrev pub is_off : Endpoint → Timer → Bool
 is_off e Rto = not (is_armed e.timers Rto)
 is_off e Persist = not (is_armed e.timers Persist && is_up e && has_more e)
 is_off e Msl2 = not (is_armed e.timers Msl2)
 is_off e Giveup = not (may_give_up e)
-is_off e Pto = true
+is_off e Pto = not (may_probe e)
 
 abbrev pub expiry_rules : Header → ℕ → Endpoint → Expired → List (Rule × Bool)
 expiry_rules h moment e x =
@@ -83,4 +87,4 @@ after_expiry e (expireds.Rto growth) moment = after_rto e growth moment
 after_expiry e expireds.Persist moment = after_persist e moment
 after_expiry e expireds.Msl2 moment = shut_down e
 after_expiry e expireds.Giveup moment = record (shut_down e) { fault = Some Timeout; reset_due = true }
-after_expiry e expireds.Pto moment = e
+after_expiry e expireds.Pto moment = record e { timers = expired e.timers Pto moment }

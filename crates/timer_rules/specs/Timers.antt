@@ -87,10 +87,11 @@ refusal t timer moment h =
     if not (is_armed t timer) then Some Off else (if is_early t timer moment h then Some Early else None)
 
 -- after an expiry: the retransmission timer is rearmed with twice the timeout (RFC 6298, 5.5 and 5.6), the persist
--- timer with the same one, the wait in TIME-WAIT is over
+-- timer with the same one, the wait in TIME-WAIT is over; one that probes for a loss rearms the retransmission timer if
+-- that is armed (RFC 8985, 7.3)
 abbrev pub expired : Timers → Timer → ℕ → Timers
 expired t Rto moment = armed (backed_off t) Rto moment
 expired t Persist moment = armed t Persist moment
 expired t Msl2 moment = stopped t Msl2
 expired t Giveup moment = t
-expired t Pto moment = t
+expired t Pto moment = if is_armed t Rto then armed t Rto moment else t

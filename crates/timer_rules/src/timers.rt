@@ -2,7 +2,7 @@
 
 ghost use Rattle.std.specs.Prelude.{◌≡◌, ◌≢◌, ◌≤◌, nat_lt, OnOk, OnErr};
 ghost use Rattle.std.specs.Result.{result_err};
-ghost use Rattle.case_forms.specs.declared.timer.Timer.TheVariants.{Giveup};
+ghost use Rattle.case_forms.specs.declared.timer.Timer.TheVariants.{Giveup, Pto};
 ghost use Rattle.timer_rules.specs.Timeouts.{longest_rto, srtt_after, rttvar_after, timeout};
 ghost use Rattle.timer_rules.specs.Timers.{start, sampled, backed_off, raised_for_lost_syn, armed_since, with_timer};
 ghost use Rattle.timer_rules.specs.Timers.{armed, stopped, all_stopped, run_time, earliest, refusal, expired};
@@ -99,6 +99,16 @@ impl Timers {
         ensures { self.new ≡ raised_for_lost_syn self.old }
     {
         self.rto = self.rto.max(3_000_000);
+    }
+
+    /// Rearms the retransmission timer at a moment in microseconds if it is armed: a probe for a loss is due (RFC 8985,
+    /// 7.3).
+    pub fn rearm(&mut self, moment: u64)
+        ensures { self.new ≡ expired self.old Pto moment }
+    {
+        if self.rto_armed.is_some() {
+            self.rto_armed = Some(moment);
+        }
     }
 
     /// Lets a timer, any but `Giveup`, expire at a moment in microseconds. An expiry of the retransmission timer
