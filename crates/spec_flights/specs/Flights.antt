@@ -1,6 +1,6 @@
 -- What is kept of data in flight, what it refuses, and what is kept after a step.
 use Rattle.std.specs.Prelude.{ℕ, suc, ◌+◌, nat_eq, nat_le, nat_lt, Bool, true, false, not, ◌&&◌, ◌||◌, if◌then◌else◌}
-use Rattle.std.specs.Prelude.{List, [], Option, None, Some, unwrap_or}
+use Rattle.std.specs.Prelude.{List, [], Option, None, Some, is_some, length, unwrap_or}
 use Rattle.std.specs.FinSet.{contains, from_list}
 use Rattle.std.specs.List.{list_all}
 use Rattle.std.specs.Map.{lookup}
@@ -11,7 +11,7 @@ use Rattle.case_forms.specs.States.{is_syn_sent}
 use Rattle.case_forms.specs.Versions.{says_sender}
 use Rattle.case_forms.specs.declared.calls.Host.{Host}
 use Rattle.case_forms.specs.declared.steps.SegmentPlan.{SegmentPlan}
-use Rattle.case_forms.specs.declared.timer.Timer.TheVariants.{Rto, Persist}
+use Rattle.case_forms.specs.declared.timer.Timer.TheVariants.{Pto, Rto, Persist}
 use Rattle.case_forms.specs.declared.trace.Header.{Header}
 use Rattle.verdict.specs.declared.rule.Rule.{Rule}
 use Rattle.verdict.specs.declared.rule.Rule.TheVariants as rules
@@ -33,19 +33,22 @@ use Rattle.spec_duties.specs.declared.views.View.{View}
 use Rattle.spec_flights.specs.Delivered.{Reports, heard, read_reports}
 use Rattle.spec_flights.specs.Late.{has_below, resent_below, settled}
 use Rattle.spec_flights.specs.Marks.{marks_after, old_part, opens_probed}
+use Rattle.spec_flights.specs.Probing.{Probing, is_due, is_early_probe, is_none, not_probing, probing_after}
 use Rattle.spec_flights.specs.Recovering.{Recovery, is_recovering, is_repairing, none_begun, recovery_after}
 use Rattle.spec_flights.specs.Scoreboard.{Scoreboard, nothing_built, stretch_built, with_built, with_given_up}
 use Rattle.spec_flights.specs.Sides.{Sides, are_selective, neither, sides_after}
 use Rattle.spec_flights.specs.Stretches.{Stretch}
 
 -- what is kept of an endpoint: what the two SYNs permit, from which loss it recovers, which positions are marked, in
--- order, what is known of each outstanding one, and whether it made use of a rescue since the recovery began
+-- order, what is known of each outstanding one, whether it made use of a rescue since the recovery began, and how far a
+-- probe for a loss is
 pub record Flight : Type 0 where
   pub sides : Sides
   pub recovery : Recovery
   pub marks : List ℕ
   pub board : Scoreboard
   pub rescued : Bool
+  pub probing : Probing
 
 abbrev pub unflown : Flight
 unflown = record {
@@ -54,6 +57,7 @@ unflown = record {
   marks = [];
   board = nothing_built;
   rescued = false;
+  probing = not_probing;
 }
 
 -- of all endpoints of both hosts, by their places
@@ -109,8 +113,15 @@ is_rescue clock v f old =
 abbrev pub goes_again : View → SegmentPlan → Bool
 goes_again v m = nat_lt 0 (making_length m) && nat_lt m.pos v.snd_max && not (is_fin_alone m v)
 
-abbrev pub may_go_again : (clock : ℕ) → View → Flight → (old : Stretch) → Bool
-may_go_again clock v f old = are_free (free_below clock v f) f old || is_rescue clock v f old
+-- the probe that is due is what was sent last (RFC 8985, 7.3)
+abbrev pub is_probe : View → SegmentPlan → Flight → Bool
+is_probe v m f =
+    is_due f.probing.probe && nat_eq (m.pos + making_length m) v.snd_max
+    && not (meets (from_list f.board.told) (old_part v m).from (old_part v m).upto)
+
+abbrev pub may_go_again : (clock : ℕ) → View → SegmentPlan → Flight → Bool
+may_go_again clock v m f =
+    are_free (free_below clock v f) f (old_part v m) || is_probe v m f || is_rescue clock v f (old_part v m)
 
 -- something is lost, or given up
 abbrev pub finds_lost : (clock : ℕ) → View → Flight → Bool
@@ -124,21 +135,36 @@ may_begin clock v f =
     then not (is_recovering v f.recovery) && (nat_lt 2 v.dup || finds_lost clock v f)
     else nat_lt 2 v.dup && not v.fast
 
--- the rule that a step breaks
-abbrev pub broken_at : (clock : ℕ) → Event → View → Flight → Option Rule
-broken_at clock (Builds m) v f =
-    if goes_again v m && not (may_go_again clock v f (old_part v m)) then Some rules.OldData else None
-broken_at clock Recovers v f = if may_begin clock v f then None else Some rules.Recovery
-broken_at clock event v f = None
+-- both SYNs permit SACK, something was sent before, no probe is due or on its way, and nothing is known to be lost or
+-- received (RFC 8985, 7.2 and 7.3)
+abbrev pub may_be_probed : View → Flight → Bool
+may_be_probed v f =
+    are_selective f.sides && not (is_recovering v f.recovery) && is_none f.probing.probe && is_some f.probing.quiet
+    && nat_eq (length f.board.told) 0
 
--- from version 6 on, the choice of when data goes again is judged here
+-- the timer expires that makes a probe due
+abbrev pub probe_broken : (clock : ℕ) → View → Flight → Option Rule
+probe_broken clock v f =
+    if not (may_be_probed v f) then Some rules.TimerOff
+    else if is_early_probe clock v f.probing.quiet then Some rules.TimerEarly else None
+
+-- the rule that a step breaks; `repeats`: whether it is judged when data goes again
+abbrev pub broken_at : (repeats : Bool) → (clock : ℕ) → Event → View → Flight → Option Rule
+broken_at repeats clock (Builds m) v f =
+    if repeats && goes_again v m && not (may_go_again clock v m f) then Some rules.OldData else None
+broken_at repeats clock Recovers v f = if repeats && not (may_begin clock v f) then Some rules.Recovery else None
+broken_at repeats clock (Expires Pto) v f = probe_broken clock v f
+broken_at repeats clock event v f = None
+
+-- it is judged from version 6 on
 abbrev pub judges : Header → Bool
-judges h = says_sender h.version && judges_repeats h.congestion
+judges h = says_sender h.version
 
 abbrev pub refusal : Header → (moment : ℕ) → Flights → Observation → Option Rule
 refusal h moment fs s =
     if judges h
-    then on s.touched None (λ t. broken_at (moment + h.grain) t.event t.before (flight_at fs t.host t.place))
+    then on s.touched None
+    (λ t. broken_at (judges_repeats h.congestion) (moment + h.grain) t.event t.before (flight_at fs t.host t.place))
     else None
 
 -- ---- what is kept after a step
@@ -182,9 +208,10 @@ board_after moment clock recovers number (Expires Persist) before after r b = wi
 board_after moment clock recovers number Recovers before after r b = settled recovers clock b
 board_after moment clock recovers number event before after r b = b
 
--- a segment is sent again though nothing is lost, and none of it is marked
+-- a segment is sent again though nothing is lost, none of it is marked, and it is no probe
 abbrev pub uses_rescue : (clock : ℕ) → View → SegmentPlan → Flight → Bool
-uses_rescue clock v m f = goes_again v m && not (are_free (free_below clock v f) f (old_part v m))
+uses_rescue clock v m f =
+    goes_again v m && not (are_free (free_below clock v f) f (old_part v m) || is_probe v m f)
 
 abbrev pub rescued_after : (clock : ℕ) → Event → (before : View) → Flight → Bool
 rescued_after clock (Builds m) before f = f.rescued || uses_rescue clock before m f
@@ -204,6 +231,7 @@ flight_by moment clock s t after sides r f = record {
       board_after moment clock (is_recovering t.before f.recovery) (number_built s.built_change) t.event t.before after
       (read_reports sides s.blocks) f.board;
   rescued = rescued_after clock t.event t.before f;
+  probing = probing_after moment t.event t.before after f.probing;
 }
 
 abbrev pub flight_after : (moment clock : ℕ) → Observation → TouchedEndpoint → (after : View) → Flight → Flight

@@ -1,6 +1,7 @@
 pub mod Sides
 pub mod Stretches
 pub mod Recovering
+pub mod Probing
 pub mod Scoreboard
 pub mod Late
 pub mod Delivered

@@ -6,12 +6,13 @@
 //! This crate has no code, only the values that are kept and the definitions. `flights` implements them.
 //!
 //! - `sides`: what the two SYNs permitted; `recovery`: from which loss an endpoint recovers; `stretch`: some positions;
-//!   `making`: segments that were built; `reports`: what blocks report
+//!   `making`: segments that were built; `reports`: what blocks report; `probing`: probes for a loss
 //!
 //! The definitions:
 //!
 //! - `specs/Sides`: which endpoints acknowledge selectively
 //! - `specs/Recovering`: up to which position an endpoint recovers from a loss
+//! - `specs/Probing`: when a probe for a loss is due, and until when it is on its way
 //! - `specs/Scoreboard`: what is known of outstanding positions, and what building a segment changes of it
 //! - `specs/Late`: what is lost, since something that was sent later was delivered
 //! - `specs/Delivered`: what an acknowledgment delivers, by its number and by its blocks
@@ -20,12 +21,14 @@
 #![tactic(auto)]
 
 mod making;
+mod probing;
 mod recovery;
 mod reports;
 mod sides;
 mod stretch;
 
 pub use making::{Latest, Making};
+pub use probing::{Probe, Probing};
 pub use recovery::Recovery;
 pub use reports::Reports;
 pub use sides::Sides;
