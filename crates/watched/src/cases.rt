@@ -276,11 +276,15 @@ fn judge_line(
             let seen = observe_sending(world, *host, *made, wire);
             watch_step(world, flights, duties, moment, taken, &seen, None)
         }
+        TakenLine::Expired { .. } => {
+            let seen = observe_line(world, moment, &taken);
+            let refusal = flights.refusal(world.header(), moment, &seen);
+            watch_step(world, flights, duties, moment, taken, &seen, refusal)
+        }
         TakenLine::CallBegin { .. }
         | TakenLine::CallEnd { .. }
         | TakenLine::Came { .. }
-        | TakenLine::Heard { .. }
-        | TakenLine::Expired { .. } => {
+        | TakenLine::Heard { .. } => {
             let seen = observe_line(world, moment, &taken);
             watch_step(world, flights, duties, moment, taken, &seen, None)
         }
