@@ -6,7 +6,7 @@ use Rattle.std.specs.Str.Parse.{digits_value, without_leading_plus}
 use Rattle.std.proofs.lemmas.List.{append-nil}
 use Rattle.clap.specs.Words.{Text}
 use Rattle.two_hosts.specs.declared.plan.Plan.{Plan}
-use Rattle.case_forms.specs.Versions.{is_half}
+use Rattle.case_forms.specs.Versions.{is_half, says_sender}
 use Rattle.case_forms.specs.declared.version.Version.{Version}
 use Rattle.case_forms.specs.declared.version.Version.TheVariants as versions
 use Rattle.cli.specs.declared.record_words.Setting.{Setting}
@@ -348,12 +348,12 @@ one_plan words p q a b =
     ap (λ (n : ℕ). record p { rounds = n }) rounds ∙ ap (λ (n : ℕ). record q { lose = n; version = p.version }) lose
     ∙ ap (λ (v : Version). record q { version = v }) version
 
-pub asks_whole : (words : List Text) (plan : Plan) → AsksRecord words plan → is_half plan.version ≡ false
+pub asks_whole : (words : List Text) (plan : Plan) → AsksRecord words plan → (is_half plan.version ≡ false) × (says_sender plan.version ≡ false)
 asks_whole words plan asks = whole (numbers_of Format asks.options) plan.version asks.version
   where
-    whole : (ns : List ℕ) (v : Version) → IsVersion ns v → is_half v ≡ false
-    whole ns versions.One is = refl
-    whole ns versions.Two is = refl
+    whole : (ns : List ℕ) (v : Version) → IsVersion ns v → (is_half v ≡ false) × (says_sender v ≡ false)
+    whole ns versions.One is = (refl, refl)
+    whole ns versions.Two is = (refl, refl)
     whole ns versions.Three is = absurd is
     whole ns versions.Four is = absurd is
     whole ns versions.FourHalf is = absurd is

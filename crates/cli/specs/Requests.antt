@@ -1,6 +1,6 @@
 -- What the words of a command line request.
 use Rattle.std.specs.Prelude.{◌≡◌, Bool, true, false, ℕ, List}
-use Rattle.case_forms.specs.Versions.{is_half}
+use Rattle.case_forms.specs.Versions.{is_half, says_sender}
 use Rattle.clap.specs.Words.{Text}
 use Rattle.help.specs.AskedHelp.{asks_help}
 use Rattle.help.specs.declared.topics.Program.TheVariants.{Tcpwit}
@@ -64,7 +64,7 @@ may_be_refused (Files trace witness) = true
 may_be_refused (Command command) = records (Command command)
 may_be_refused Unknown = false
 
--- if it is a recording, then of both hosts
+-- if it is a recording, then of both hosts, and in a version that judges neither data in flight nor probes
 abbrev pub IsWhole : Request → Type 0
-IsWhole (Command (Record plan)) = is_half plan.version ≡ false
+IsWhole (Command (Record plan)) = (is_half plan.version ≡ false) × (says_sender plan.version ≡ false)
 IsWhole _ = Unit {0}

@@ -2,7 +2,7 @@
 
 ghost use Rattle.std.specs.Prelude.{◌≡◌, ◌≢◌, ◌<◌, ◌^◌, false, codes};
 ghost use Rattle.std.specs.Io.KnownBytes.{Appends};
-ghost use Rattle.case_forms.specs.Versions.{is_half};
+ghost use Rattle.case_forms.specs.Versions.{is_half, says_sender};
 ghost use Rattle.witness.specs.Printable.{TellShifts};
 ghost use Rattle.checker.specs.Explains.{Explains};
 ghost use Rattle.counted.specs.Counting.{left_of, failures_of};
@@ -30,6 +30,7 @@ pub(crate) fn answer_record<W: Write, H: Threads + Wait + Sync>(
 ) -> u8
     requires few { failures_of w.old < 2 ^ 50 }
     requires whole { is_half plan.version ≡ false }
+    requires judged { says_sender plan.version ≡ false }
     ensures recorded { result ≢ 5 → EndsRecord plan result (left_of W.contents w.old) (left_of W.contents w.new) }
     ensures told { result ≡ 5 → failures_of w.new ≡ failures_of w.old →
         Appends (left_of W.contents w.old) (left_of W.contents w.new) (codes "bad device\n") }

@@ -52,7 +52,7 @@ pub record Tells (t : Trace) (w : Witness) (steps : List (Stamped tcp_shape)) : 
   pub version : t.header.version ≡ w.version
   -- duties aren't judged
   pub slack : t.header.slack ≡ None
-  -- nor is which data goes again
+  -- nor is which data goes again, or what is probed for: the version is one of 1 to 5
   pub judged : judges t.header ≡ false
   pub takes : AllTakeWell t.header t.lines w.steps
   pub steps_are : stamped t.header t.lines w.steps ≡ steps

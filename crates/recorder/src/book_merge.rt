@@ -21,8 +21,9 @@ use checker::explained_is_yes;
 use std::alloc::Global;
 
 /// The finished books of host 0 and of host 1 in a whole case, merged in the order of their keys: a trace and a witness
-/// that explains it, so `check` answers yes. The error names the first segment that arrived at a host and that the
-/// other didn't send, or says that memory ran out. Two matching books are merged unless memory runs out.
+/// that explains it, so `check` answers yes. The case has no slack and is of version 1 to 5: neither duties, nor which
+/// data goes again, nor probes for a loss are judged. The error names the first segment that arrived at a host and that
+/// the other didn't send, or says that memory ran out. Two matching books are merged unless memory runs out.
 pub fn merge(alloc: Global, zero: HostBook, one: HostBook) -> Result<Recorded, MergeFault>
     requires hosts { (zero.core.recorded.me ≡ Zero) × (one.core.recorded.me ≡ One) }
     requires headers { zero.core.recorded.header ≡ one.core.recorded.header }

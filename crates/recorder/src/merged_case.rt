@@ -86,7 +86,8 @@ fn tell(alloc: Global, zero: &Recording, one: &Recording) -> Result<Recorded, Ou
 }
 
 /// The recordings of host 0 and of host 1 in a whole case, merged in the order of their keys, with lines and made
-/// segments renumbered. Two matching books are merged unless memory runs out.
+/// segments renumbered. The case has no slack and is of version 1 to 5: neither duties, nor which data goes again, nor
+/// probes for a loss are judged. Two matching books are merged unless memory runs out.
 pub fn merge_recordings(
     alloc: Global,
     zero: &Recording,

@@ -46,7 +46,7 @@ use Rattle.stack_core.specs.Entries.{entry_at}
 use Rattle.stack_core.specs.Makings.{NothingToMake, bytes_of, fin_of, syn_of}
 use Rattle.stack_core.specs.Recordings.{Recorded, with_entry, world_left}
 use Rattle.stack_core.specs.Tended.{AreQuiet, AreTimed, IsDueSince, IsQuiet, IsSlow, IsStill, IsStillAt, IsStillBefore, IsTended, kept_ends, least}
-use Rattle.stack_core.specs.TimerEvents.{NoneDueAt}
+use Rattle.stack_core.specs.TimerEvents.{NoneDueAt, is_kept}
 use Rattle.stack_core.specs.Affected.{affected_by}
 use Rattle.endpoint_state.specs.Worlds.{Progress}
 use Rattle.stack_core.proofs.AnswerLemmas.{kept_body}
@@ -121,7 +121,7 @@ readable_at (x ∷ es) (suc i) e all at = readable_at es i e (All-tail (λ (y : 
 
 -- a closed endpoint has none
 pub closed_still : (h : Header) (e : Endpoint) → is_closed e.state ≡ true → IsStill h e
-closed_still h e is moment x not may = differ (sym is ∙ (none_all (expiry_rules h moment e x) may).0)
+closed_still h e is moment x kept may = differ (sym is ∙ (none_all (expiry_rules h moment e x) may).0)
   where
     differ : true ≡ false → ⊥
     differ x = absurd cc
@@ -137,56 +137,38 @@ least_right h e timer None b slow = slow
 least_right h e timer (Some m) None slow = λ moment x is early may. slow moment x is may
 least_right h e timer (Some m) (Some n) slow = λ moment x is early may. slow moment x is (omega arith) may
 
-no_giveup : (x : Expired) → (x ≡ expireds.Giveup → ⊥) → timer_of x ≡ Giveup → ⊥
-no_giveup (expireds.Rto growth) not is = absurd cc
-no_giveup expireds.Persist not is = absurd cc
-no_giveup expireds.Msl2 not is = absurd cc
-no_giveup expireds.Giveup not is = not refl
-no_giveup expireds.Pto not is = absurd cc
-
--- none probes for a loss
-never_probes : (h : Header) (e : Endpoint) (moment : ℕ) (x : Expired) → timer_of x ≡ Pto → first_broken (expiry_rules h moment e x) ≡ None → ⊥
-never_probes h e moment (expireds.Rto growth) kind may = absurd cc
-never_probes h e moment expireds.Persist kind may = absurd cc
-never_probes h e moment expireds.Msl2 kind may = absurd cc
-never_probes h e moment expireds.Giveup kind may = absurd cc
-never_probes h e moment expireds.Pto kind may = absurd (let t = none_all (expiry_rules h moment e expireds.Pto) may in let off = t.1.1.0 in cc)
-
-no_slow_probe : (h : Header) (e : Endpoint) (o : Option ℕ) → IsSlow h e Pto o
-no_slow_probe h e None = never_probes h e
-no_slow_probe h e (Some n) = λ moment x kind before may. never_probes h e moment x kind may
-
 module _ (h : Header) (e : Endpoint) (again probe over all : Option ℕ) (is_again : IsSlow h e Rto again)
     (is_probe : IsSlow h e Persist probe) (is_over : IsSlow h e Msl2 over)
     (is : all ≡ least again (least probe over)) where
-  each : (timer : Timer) → (timer ≡ Giveup → ⊥) → IsSlow h e timer all
-  each Rto not = subst (λ (o : Option ℕ). IsSlow h e Rto o) (sym is) (least_left h e Rto again (least probe over) is_again)
-  each Persist not =
+  each : (timer : Timer) → is_kept timer ≡ true → IsSlow h e timer all
+  each Rto kept = subst (λ (o : Option ℕ). IsSlow h e Rto o) (sym is) (least_left h e Rto again (least probe over) is_again)
+  each Persist kept =
       subst (λ (o : Option ℕ). IsSlow h e Persist o) (sym is)
       (least_right h e Persist again (least probe over) (least_left h e Persist probe over is_probe))
-  each Msl2 not = subst (λ (o : Option ℕ). IsSlow h e Msl2 o) (sym is) (least_right h e Msl2 again (least probe over) (least_right h e Msl2 probe over is_over))
-  each Giveup not = absurd (not refl)
-  each Pto not = no_slow_probe h e all
+  each Msl2 kept =
+      subst (λ (o : Option ℕ). IsSlow h e Msl2 o) (sym is) (least_right h e Msl2 again (least probe over) (least_right h e Msl2 probe over is_over))
+  each Giveup kept = absurd cc
+  each Pto kept = absurd cc
 
   pub still_before : IfSome all (λ m. IsStillBefore h m e)
   still_before = by all each
     where
-      by : (o : Option ℕ) → ((timer : Timer) → (timer ≡ Giveup → ⊥) → IsSlow h e timer o) → IfSome o (λ m. IsStillBefore h m e)
+      by : (o : Option ℕ) → ((timer : Timer) → is_kept timer ≡ true → IsSlow h e timer o) → IfSome o (λ m. IsStillBefore h m e)
       by None slow = tt
-      by (Some m) slow = λ moment early x not may. slow (timer_of x) (no_giveup x not) moment x refl early may
+      by (Some m) slow = λ moment early x kept may. slow (timer_of x) kept moment x refl early may
 
   pub still_ever : IfNone all (IsStill h e)
   still_ever = by all each
     where
-      by : (o : Option ℕ) → ((timer : Timer) → (timer ≡ Giveup → ⊥) → IsSlow h e timer o) → IfNone o (IsStill h e)
-      by None slow = λ moment x not may. slow (timer_of x) (no_giveup x not) moment x refl may
+      by : (o : Option ℕ) → ((timer : Timer) → is_kept timer ≡ true → IsSlow h e timer o) → IfNone o (IsStill h e)
+      by None slow = λ moment x kept may. slow (timer_of x) kept moment x refl may
       by (Some m) slow = tt
 
 -- 4. a recording
 
 -- none is due
 pub none_due_by : (r : Recorded) (moment : ℕ) → ((i : ℕ) (e : Endpoint) → slice_get (kept_ends r) i ≡ Some e → IsStillAt r.header moment e) → NoneDueAt r moment
-none_due_by r moment still x unlike may = by (endpoint_of b x.lport x.rport) refl
+none_due_by r moment still x kept may = by (endpoint_of b x.lport x.rport) refl
   where
     b : HostTcp
     b = (pick (world_left r).hosts r.me).body
@@ -202,7 +184,7 @@ none_due_by r moment still x unlike may = by (endpoint_of b x.lport x.rport) ref
         subst (λ (o : Option Endpoint).
         first_broken (option_map_or (λ e. expiry_rules r.header moment e x.expired) o
         ((rules.NoEndpoint, true) ∷ [])) ≡ None) at may in
-        still place.0 (forget_endpoint e) (kept_there b.endpoints place.0 e place.1) x.expired unlike
+        still place.0 (forget_endpoint e) (kept_there b.endpoints place.0 e place.1) x.expired kept
         (ap first_broken (expiry_rules-forget r.header moment e x.expired) ∙ here)
 
 pub tended_starts : (h : Header) (me : Host) (r : Recorded) (ready wakes : DeadlineQueue) → ready.looked ≡ 0 → wakes.looked ≡ 0 → IsTended r ready wakes
@@ -212,7 +194,7 @@ tended_starts h me r ready wakes none_ready none_wake = record {
 }
 
 pub never_before : (h : Header) (e : Endpoint) → IsStillBefore h 0 e
-never_before h e moment early x not may = absurd (omega arith)
+never_before h e moment early x kept may = absurd (omega arith)
 
 module _ (r : Recorded) (ready wakes ready_then wakes_then : DeadlineQueue) (affected : Affected)
     (is_ready : LooksAgain affected ready.looked ready.entries.keys ready_then.looked ready_then.entries.keys)

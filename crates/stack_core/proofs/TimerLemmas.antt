@@ -4,6 +4,7 @@ use Rattle.std.specs.Prelude.{slice_get, ◌||◌}
 use Rattle.std.specs.Option.{option_map_or}
 use Rattle.std.proofs.lemmas.Bool.Decides.{nat_tests}
 use Rattle.std.proofs.lemmas.Option.{none-some, same_Some}
+use Rattle.case_forms.specs.TakenLines.{timer_of}
 use Rattle.case_forms.specs.declared.calls.Ports.{Ports}
 use Rattle.case_forms.specs.declared.taken_line.Expired.{Expired}
 use Rattle.case_forms.specs.declared.taken_line.Expired.TheVariants.{Giveup, Msl2, Persist, Pto, Rto}
@@ -23,7 +24,7 @@ use Rattle.spec_tcp.specs.declared.endpoint.Endpoint.{Endpoint}
 use Rattle.stack_core.specs.Recordings.{Recorded, world_left}
 use Rattle.stack_core.specs.declared.tick.Tick.{Tick}
 use Rattle.stack_core.specs.Cores.{Core, Fits, event_begun, world}
-use Rattle.stack_core.specs.TimerEvents.{IsNotDueAt, IsRefused, NoneDueAt, expiry_step}
+use Rattle.stack_core.specs.TimerEvents.{IsNotDueAt, IsRefused, NoneDueAt, expiry_step, is_kept}
 use Rattle.stack_core.proofs.MakingLemmas.{of_ports}
 
 -- the same timer, with the least values
@@ -63,22 +64,13 @@ at_ports r moment x o is may =
     first_broken (option_map_or (λ e. expiry_rules r.header moment e x.expired) o ((rules.NoEndpoint, true) ∷ []))
     ≡ None) is may
 
--- none probes for a loss
-no_loss_probe : (r : Recorded) (moment : ℕ) (ports : Ports) → IsNotDueAt r moment ports Pto
-no_loss_probe r moment ports may =
-    by (endpoint_of (pick (world_left r).hosts r.me).body ports.lport ports.rport)
-    (at_ports r moment (record { lport = ports.lport; rport = ports.rport; expired = Pto }) _ refl may)
-  where
-    by : (o : Option Endpoint) → first_broken (option_map_or (λ e. expiry_rules r.header moment e Pto) o ((rules.NoEndpoint, true) ∷ [])) ≡ None → ⊥
-    by None is = absurd cc
-    by (Some e) is = absurd (let t = none_all (expiry_rules r.header moment e Pto) is in let off = t.1.1.0 in cc)
-
-by_kind : (r : Recorded) (moment : ℕ) (ports : Ports) → IsRefused r moment ports → (x : Expired) → (x ≡ Giveup → ⊥) → IsNotDueAt r moment ports (least x)
-by_kind r moment ports is (Rto growth) not = is.rto
-by_kind r moment ports is Persist not = is.persist
-by_kind r moment ports is Msl2 not = is.msl2
-by_kind r moment ports is Giveup not = absurd (not refl)
-by_kind r moment ports is Pto not = no_loss_probe r moment ports
+by_kind : (r : Recorded) (moment : ℕ) (ports : Ports) → IsRefused r moment ports → (x : Expired) → is_kept (timer_of x) ≡ true
+    → IsNotDueAt r moment ports (least x)
+by_kind r moment ports is (Rto growth) kept = is.rto
+by_kind r moment ports is Persist kept = is.persist
+by_kind r moment ports is Msl2 kept = is.msl2
+by_kind r moment ports is Giveup kept = absurd cc
+by_kind r moment ports is Pto kept = absurd cc
 
 back_at : (r : Recorded) (moment : ℕ) (x : Expiring) (e : Endpoint) → endpoint_of (pick (world_left r).hosts r.me).body x.lport x.rport ≡ Some e
     → first_broken (expiry_rules r.header moment e x.expired) ≡ None → Permitted (tcp r.header) moment (world_left r) (At r.me (Expires 0 x))
@@ -89,7 +81,7 @@ back_at r moment x e is may =
 
 pub none_due : (r : Recorded) (moment : ℕ) (b : HostTcp) → b ≡ forget_body (pick (world_left r).hosts r.me).body
     → ((i : ℕ) (e : Endpoint) → slice_get b.endpoints i ≡ Some e → IsRefused r moment (record { lport = e.lport; rport = e.rport })) → NoneDueAt r moment
-none_due r moment b is refused x not may = by (endpoint_of (pick (world_left r).hosts r.me).body x.lport x.rport) refl
+none_due r moment b is refused x kept may = by (endpoint_of (pick (world_left r).hosts r.me).body x.lport x.rport) refl
   where
     by : (o : Option Endpoint) → endpoint_of (pick (world_left r).hosts r.me).body x.lport x.rport ≡ o → ⊥
     by None at = absurd (let none = at_ports r moment x None at may in cc)
@@ -102,7 +94,7 @@ none_due r moment b is refused x not may = by (endpoint_of (pick (world_left r).
         subst (λ (p : ℕ). IsRefused r moment (record { lport = x.lport; rport = p })) place.3
         (subst (λ (p : ℕ). IsRefused r moment (record { lport = p; rport = e.rport })) place.2 (refused place.0 (forget_endpoint e) there)) in
         by_kind r moment (record { lport = x.lport; rport = x.rport }) refuses x.expired
-        not (back_at r moment (record x { expired = least x.expired }) e at
+        kept (back_at r moment (record x { expired = least x.expired }) e at
         (timer_may r.header moment e x.expired (at_ports r moment x (Some e) at may)))
 
 -- the line of a timer that may expire fits

@@ -1,8 +1,8 @@
--- What a core knows of the endpoints that it doesn't visit: nothing may be made there, and no timer is due.
-use Rattle.std.specs.Prelude.{◌≡◌, ◌≤◌, ◌<◌, ◌+◌, ℕ, min, false, List, Option, None, Some}
+-- What a core knows of the endpoints that it doesn't visit: nothing may be made there, and no timer is due that they
+-- have to keep.
+use Rattle.std.specs.Prelude.{◌≡◌, ◌≤◌, ◌<◌, ◌+◌, ℕ, min, true, false, List, Option, None, Some}
 use Rattle.case_forms.specs.declared.steps.SegmentPlan.{SegmentPlan}
 use Rattle.case_forms.specs.declared.taken_line.Expired.{Expired}
-use Rattle.case_forms.specs.declared.taken_line.Expired.TheVariants as expireds
 use Rattle.case_forms.specs.declared.timer.Timer.{Timer}
 use Rattle.case_forms.specs.TakenLines.{timer_of}
 use Rattle.case_forms.specs.declared.trace.Header.{Header}
@@ -20,6 +20,7 @@ use Rattle.stack_core.specs.declared.deadline_queue.DeadlineQueue.{DeadlineQueue
 use Rattle.stack_core.specs.declared.deadline_queue.Deadline.{Deadline}
 use Rattle.stack_core.specs.DeadlineQueues.{AreCovered}
 use Rattle.stack_core.specs.Recordings.{Recorded, world_left}
+use Rattle.stack_core.specs.TimerEvents.{is_kept}
 
 -- the endpoint makes nothing without RST that takes new positions, in any version
 abbrev pub IsQuiet : Endpoint → Type 0
@@ -27,9 +28,10 @@ IsQuiet e =
     (v : Version) (m : SegmentPlan) → m.flags.rst ≡ false → snd_max e < m.pos + making_length m
     → first_broken (making_rules v e m) ≡ None → ⊥
 
--- none of its timers may expire at this moment, except to give up
+-- none of the timers that it has to keep may expire at this moment
 abbrev pub IsStillAt : Header → ℕ → Endpoint → Type 0
-IsStillAt h moment e = (x : Expired) → (x ≡ expireds.Giveup → ⊥) → first_broken (expiry_rules h moment e x) ≡ None → ⊥
+IsStillAt h moment e =
+    (x : Expired) → is_kept (timer_of x) ≡ true → first_broken (expiry_rules h moment e x) ≡ None → ⊥
 
 -- before a moment, and ever
 abbrev pub IsStillBefore : Header → ℕ → Endpoint → Type 0
@@ -42,7 +44,7 @@ IsStill h e = (moment : ℕ) → IsStillAt h moment e
 abbrev pub AreQuiet : ℕ → List Deadline → List Endpoint → Type 0
 AreQuiet looked entries es = AreCovered (λ m e. Unit {0}) IsQuiet looked entries es
 
--- those that aren't to be visited yet have no timer that is due
+-- those that aren't to be visited yet have no timer to keep that is due
 abbrev pub AreTimed : Header → ℕ → List Deadline → List Endpoint → Type 0
 AreTimed h looked entries es = AreCovered (IsStillBefore h) (IsStill h) looked entries es
 

@@ -4,7 +4,10 @@ use Rattle.case_forms.specs.declared.calls.Host.{Host}
 use Rattle.case_forms.specs.declared.calls.Ports.{Ports}
 use Rattle.case_forms.specs.declared.taken_line.Expired.{Expired}
 use Rattle.case_forms.specs.declared.taken_line.Expired.TheVariants as expireds
+use Rattle.case_forms.specs.declared.timer.Timer.{Timer}
+use Rattle.case_forms.specs.declared.timer.Timer.TheVariants.{Giveup, Msl2, Persist, Pto, Rto}
 use Rattle.case_forms.specs.States.{is_fin_wait_2}
+use Rattle.case_forms.specs.TakenLines.{timer_of}
 use Rattle.spec_network.specs.Hosts.{At, Expires, Step}
 use Rattle.spec_network.specs.HostRules.{Permitted}
 use Rattle.spec_network.specs.Tables.{pick}
@@ -15,6 +18,14 @@ use Rattle.spec_tcp.specs.Machine.{Expiring, tcp, tcp_shape}
 use Rattle.stack_core.specs.declared.tick.Tick.{Tick}
 use Rattle.stack_core.specs.Cores.{Core, line_to_come, event_begun, with_step}
 use Rattle.stack_core.specs.Recordings.{Recorded, world_left}
+
+-- a timer that an endpoint has to keep; giving up and probing for a loss (RFC 8985, 7) are its choice
+abbrev pub is_kept : Timer → Bool
+is_kept Rto = true
+is_kept Persist = true
+is_kept Msl2 = true
+is_kept Giveup = false
+is_kept Pto = false
 
 -- the line of a timer that expires
 abbrev pub expiry_step : Host → ℕ → Ports → Expired → Step tcp_shape
@@ -39,15 +50,16 @@ pub record HasTried (r : Recorded) (ports : Ports) : Type 0 where
   pub unanswered_expiries : 12 ≤ endpoint.unanswered_expiries
   pub state : is_fin_wait_2 endpoint.state ≡ false
 
--- if an endpoint gives up, it has tried this often
-abbrev pub IfGivesUp : Recorded → Ports → Expired → Type 0
-IfGivesUp r ports expireds.Giveup = HasTried r ports
-IfGivesUp r ports e = Unit {0}
+-- if an endpoint gives up, it has tried this often; it doesn't probe for a loss
+abbrev pub IfChosen : Recorded → Ports → Expired → Type 0
+IfChosen r ports expireds.Giveup = HasTried r ports
+IfChosen r ports expireds.Pto = ⊥
+IfChosen r ports e = Unit {0}
 
 -- no line of a retransmission timer, a persist timer or a wait in TIME-WAIT is permitted at this moment
 abbrev pub NoneDueAt : Recorded → ℕ → Type 0
 NoneDueAt r moment =
-    (x : Expiring) → (x.expired ≡ expireds.Giveup → ⊥)
+    (x : Expiring) → is_kept (timer_of x.expired) ≡ true
     → Permitted (tcp r.header) moment (world_left r) (At r.me (Expires 0 x)) → ⊥
 
 abbrev pub NoneDue : Core → ℕ → Type 0
@@ -61,5 +73,5 @@ pub record IsRefused (r : Recorded) (moment : ℕ) (ports : Ports) : Type 0 wher
 
 -- an event found a timer that expired, or none due
 abbrev pub IsTimed : Core → Tick → Bool → Core → Type 0
-IsTimed c tick true d = (ports : Ports) × (e : Expired) × (d ≡ expired c tick ports e) × IfGivesUp c.recorded ports e
+IsTimed c tick true d = (ports : Ports) × (e : Expired) × (d ≡ expired c tick ports e) × IfChosen c.recorded ports e
 IsTimed c tick false d = (d ≡ c) × NoneDue c tick.moment

@@ -9,7 +9,7 @@ ghost use Rattle.stack_core.specs.CoreWorlds.{Leaves};
 ghost use Rattle.stack_core.specs.CoreWorlds.CoreCall.{Timers};
 ghost use Rattle.stack_core.specs.Cores.{IsAfter, IsRecorded, event_begun};
 ghost use Rattle.stack_core.specs.Entries.{steps_in};
-ghost use Rattle.stack_core.specs.TimerEvents.{HasTried, IfGivesUp, IsDueAt, IsNotDueAt, IsRefused, IsTimed, NoneDue};
+ghost use Rattle.stack_core.specs.TimerEvents.{HasTried, IfChosen, IsDueAt, IsNotDueAt, IsRefused, IsTimed, NoneDue};
 ghost use Rattle.stack_core.specs.TimerEvents.{NoneDueAt};
 ghost use Rattle.stack_core.specs.Tended.{AreTimed, IsDueSince, IsSlow, IsStill, IsStillBefore, kept_ends, least};
 
@@ -28,9 +28,9 @@ use spec_step::Label;
 const TRIES: u32 = 12;
 
 impl HostCore {
-    /// A timer that is due expires, which is a line. False: nothing is changed, because no line of a retransmission
-    /// timer, a persist timer or a wait in TIME-WAIT is permitted. The error is that memory ran out; then the tick has
-    /// passed, and nothing is added.
+    /// A timer that is due expires, which is a line; none probes for a loss (RFC 8985, 7). False: nothing is changed,
+    /// because no line of a retransmission timer, a persist timer or a wait in TIME-WAIT is permitted. The error is
+    /// that memory ran out; then the tick has passed, and nothing is added.
     pub fn timers(&mut self, tick: Tick) -> Result<bool, OutOfMemory>
         requires tick { IsAfter self.old.last tick }
         requires events { self.old.events < 10000000 }
@@ -90,7 +90,7 @@ impl HostCore {
         requires steps { steps_in self.old.recorded.entries < most_steps }
         ensures same { self.new ≡ self.old }
         ensures some { IfSome result (λ due. IsDueAt self.old.recorded moment due.ports due.expired) }
-        ensures tried { IfSome result (λ due. IfGivesUp self.old.recorded due.ports due.expired) }
+        ensures tried { IfSome result (λ due. IfChosen self.old.recorded due.ports due.expired) }
         ensures none { IfNone result (NoneDue self.old moment) }
     {
         find_due(&mut self.wakes, &self.recording, moment)
@@ -103,7 +103,7 @@ fn find_due(wakes: &mut DeadlineQueue, recording: &Recording, moment: u64) -> Op
     requires steps { steps_in recording.now.entries < most_steps }
     requires timed { AreTimed recording.now.header wakes.old.looked wakes.old.entries.keys (kept_ends recording.now) }
     ensures some { IfSome result (λ due. IsDueAt recording.now moment due.ports due.expired) }
-    ensures tried { IfSome result (λ due. IfGivesUp recording.now due.ports due.expired) }
+    ensures tried { IfSome result (λ due. IfChosen recording.now due.ports due.expired) }
     ensures none { IfNone result (NoneDueAt recording.now moment) }
     ensures timed { AreTimed recording.now.header wakes.new.looked wakes.new.entries.keys (kept_ends recording.now) }
 {
@@ -120,7 +120,7 @@ fn find_among(wakes: &mut DeadlineQueue, recording: &Recording, moment: u64) -> 
     requires all { length (kept_ends recording.now) ≤ wakes.old.looked }
     requires timed { AreTimed recording.now.header wakes.old.looked wakes.old.entries.keys (kept_ends recording.now) }
     ensures some { IfSome result (λ due. IsDueAt recording.now moment due.ports due.expired) }
-    ensures tried { IfSome result (λ due. IfGivesUp recording.now due.ports due.expired) }
+    ensures tried { IfSome result (λ due. IfChosen recording.now due.ports due.expired) }
     ensures none { IfNone result (NoneDueAt recording.now moment) }
     ensures timed { AreTimed recording.now.header wakes.new.looked wakes.new.entries.keys (kept_ends recording.now) }
 {
@@ -164,7 +164,7 @@ fn look_later(wakes: &mut DeadlineQueue, wake: Deadline, header: &Header, body: 
     }
 }
 
-// The moment before which no timer of the endpoint at a place may expire. None: none may ever.
+// The moment before which no timer that the endpoint at a place has to keep may expire. None: none may ever.
 fn next_due(header: &Header, body: &HostTcp, place: u32) -> Option<u64>
     ensures some { IfSome result (λ m. (e : Endpoint) → slice_get body.now.endpoints place ≡ Some e
         → IsStillBefore header.now m e) }
@@ -246,7 +246,7 @@ fn least(one: Option<u64>, other: Option<u64>) -> Option<u64>
 fn find_any_due(recording: &Recording, moment: u64) -> Option<Due>
     requires steps { steps_in recording.now.entries < most_steps }
     ensures some { IfSome result (λ due. IsDueAt recording.now moment due.ports due.expired) }
-    ensures tried { IfSome result (λ due. IfGivesUp recording.now due.ports due.expired) }
+    ensures tried { IfSome result (λ due. IfChosen recording.now due.ports due.expired) }
     ensures none { IfNone result (NoneDueAt recording.now moment) }
 {
     recording.few_endpoints();
@@ -265,7 +265,7 @@ fn find_any_due(recording: &Recording, moment: u64) -> Option<Due>
 fn due_at(recording: &Recording, moment: u64, endpoint: &Endpoint) -> Option<Due>
     requires steps { steps_in recording.now.entries < most_steps }
     ensures some { IfSome result (λ due. IsDueAt recording.now moment due.ports due.expired) }
-    ensures tried { IfSome result (λ due. IfGivesUp recording.now due.ports due.expired) }
+    ensures tried { IfSome result (λ due. IfChosen recording.now due.ports due.expired) }
     ensures none { IfNone result (IsRefused recording.now moment
         (record { lport = endpoint.now.lport; rport = endpoint.now.rport })) }
 {

@@ -1,7 +1,7 @@
 //! The whole recording.
 
 ghost use Rattle.std.specs.Prelude.{◌≡◌, false, IfOk};
-ghost use Rattle.case_forms.specs.Versions.{is_half};
+ghost use Rattle.case_forms.specs.Versions.{is_half, says_sender};
 ghost use Rattle.case_forms.specs.declared.calls.Host.TheVariants.{Zero, One};
 ghost use Rattle.witness.specs.Printable.{TellShifts};
 ghost use Rattle.checker.specs.Explains.{Explains};
@@ -246,13 +246,14 @@ pub fn record_books<F: WireFate + Send + Drop, G: WireFate + Send + Drop, R: Thr
     record_with::<Brand, Brand, F, G, R>(rt, alloc, header_of(version), first, second, talk)
 }
 
-/// Records the connection as it is planned, in version 1 or 2.
+/// Records the connection as it is planned, in a version from 1 to 5: later ones judge probes for a loss, too.
 pub fn record<R: Threads + Wait + Sync>(
     rt: &R,
     alloc: Global,
     plan: Plan,
 ) -> Result<Recording, RecordFault>
-    requires { is_half plan.version ≡ false }
+    requires whole { is_half plan.version ≡ false }
+    requires judged { says_sender plan.version ≡ false }
     ensures header { IfOk result (λ r. r.recorded.trace.header ≡ header_of plan.version) }
     ensures version { IfOk result (λ r. r.recorded.witness.version ≡ plan.version) }
     ensures shifts { IfOk result (λ r. TellShifts r.recorded.witness.version r.recorded.witness.steps) }

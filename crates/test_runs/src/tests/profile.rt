@@ -1,7 +1,7 @@
 //! What the first segments of both hosts of a recording carry, and in which threads their lines are.
 
 ghost use Rattle.std.specs.Prelude.{◌≡◌, false};
-ghost use Rattle.case_forms.specs.Versions.{is_half};
+ghost use Rattle.case_forms.specs.Versions.{is_half, says_sender};
 
 use crate::tests::talks::TRIES;
 use case_forms::{Event, Host, Initial, Line, Trace, Version};
@@ -119,7 +119,8 @@ fn judge_round<R: Threads + Wait + Sync>(
     version: Version,
     shift: Option<u8>,
 ) -> &'static str
-    requires { is_half version ≡ false }
+    requires whole { is_half version ≡ false }
+    requires judged { says_sender version ≡ false }
 {
     let plan = Plan {
         rounds: 1,
