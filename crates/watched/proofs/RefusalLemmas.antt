@@ -6,6 +6,9 @@ use Rattle.std.specs.Option.{option_map, option_map_or}
 use Rattle.std.proofs.lemmas.Bool.Decides.{nat_tests}
 use Rattle.case_forms.specs.declared.calls.Host.{Host}
 use Rattle.case_forms.specs.declared.steps.SegmentPlan.{SegmentPlan}
+use Rattle.case_forms.specs.TakenLines.{timer_of}
+use Rattle.case_forms.specs.declared.taken_line.Expired.{Expired}
+use Rattle.case_forms.specs.declared.taken_line.Expired.TheVariants as expireds
 use Rattle.case_forms.specs.declared.timer.Recovery.{Recovery}
 use Rattle.case_forms.specs.declared.trace.Header.{Header}
 use Rattle.verdict.specs.Rules.{first_broken, rule_number}
@@ -19,6 +22,7 @@ use Rattle.spec_tcp.specs.HostTcp.{HostTcp, endpoint_at, place_of}
 use Rattle.spec_tcp.specs.Machine.{tcp, tcp_shape}
 use Rattle.spec_tcp.specs.Makes.{making_rules}
 use Rattle.spec_tcp.specs.Recovery.{recovery_rules}
+use Rattle.spec_tcp.specs.Timeouts.{expiry_rules}
 use Rattle.spec_tcp.specs.declared.endpoint.Endpoint.{Endpoint}
 use Rattle.spec_tcp_laws.specs.Ascending.{ascend}
 use Rattle.spec_tcp_laws.proofs.Ascending.{rules_ascend}
@@ -26,11 +30,12 @@ use Rattle.spec_tcp_laws.proofs.Rules.{both_true, at_most_to}
 use Rattle.spec_duties.specs.declared.events.Event.TheVariants as events
 use Rattle.spec_duties.specs.declared.events.Event.{Event}
 use Rattle.spec_duties.specs.Observations.{at_place}
+use Rattle.spec_duties.specs.Resent.{judges_repeats}
 use Rattle.spec_duties.specs.declared.observations.TouchedEndpoint.{TouchedEndpoint}
 use Rattle.spec_duties.specs.Views.{view_of}
 use Rattle.spec_duties.specs.declared.views.View.{View}
-use Rattle.spec_flights.specs.Flights.{Flight, broken_at, flight_at, goes_again, judges, may_begin, may_go_again}
-use Rattle.spec_flights.specs.Marks.{old_part}
+use Rattle.spec_flights.specs.Flights.{Flight, broken_at, flight_at, goes_again, judges, may_be_probed, may_begin, may_go_again}
+use Rattle.spec_flights.specs.Probing.{is_early_probe}
 use Rattle.spec_cases.specs.Cases as cases
 use Rattle.spec_cases.specs.Cases.{Known, case_rules, model_rules, refused_at, refused_by, watch_rules, with_broken}
 use Rattle.watched.specs.Watched.{least_broken}
