@@ -578,6 +578,39 @@ class Probes(unittest.TestCase):
         it.stop(2_000_000)
         self.assert_found(it, [(moment, "pto"), (moment + 1_000_000, "rto")], "^yes")
 
+    def assert_lost(self, it, send):
+        """A segment is lost, and so is its probe, at the RTO. The next expiry comes one RTO later, and not two."""
+        moments = []
+        for after in (10, 1_000_000, 1_000_000, 2_000_000):
+            send(after)
+            moments.append(it.moment)
+        it.came(1, 2, after=it.CLOCK)
+        it.stop(1_000_000)
+        self.assert_found(it, list(zip(moments[1:], ("pto", "rto", "rto"))), "^yes")
+
+    def test_a_lost_probe_of_all_that_is_in_flight(self):
+        """An expiry is possible where the probe goes, too; only the next one shows that it was a probe."""
+        it = Selective(10_000)
+        it.call(f"send {it.opener} 78", "ok 1")
+        self.assert_lost(it, lambda after: it.sent(1, 1, b"x", after=after))
+
+    def test_a_lost_probe_by_a_fin(self):
+        it = Selective(10_000)
+        it.call(f"close {it.opener}", "ok")
+        self.assert_lost(it, lambda after: it.sent(1, 1, flags=0x11, after=after))
+
+    def test_new_data_as_a_probe(self):
+        """It restarts the timer, so the expiry isn't late."""
+        it = Selective(10_000)
+        it.call(f"send {it.opener} {(2 * self.PIECE).hex()}", "ok 200")
+        it.sent(1, 1, self.PIECE)
+        it.sent(101, 1, self.PIECE, after=90_000)
+        moment = it.moment
+        it.sent(1, 1, self.PIECE, after=1_000_000)
+        it.came(1, 201, after=it.CLOCK)
+        it.stop(1_000_000)
+        self.assert_found(it, [(moment, "pto"), (moment + 1_000_000, "rto")], "^yes")
+
     def test_what_is_no_probe(self):
         """It comes too early, isn't what was sent last, or the SYNs don't permit SACK."""
         for kind, piece, after in ((Selective, 2, 70_000), (Selective, 1, 90_000), (Strict, 2, 90_000)):
