@@ -111,9 +111,9 @@ impl Progress {
         Ok(())
     }
 
-    // From version 6 on, what was sent last may be sent again as a probe for its loss (RFC 8985, 7.3). The result is
-    // whether a probe is due now.
-    fn probe_with(&mut self, key: EndpointKey, plan: &SegmentPlan) -> Result<bool, Stop> {
+    // Adds a line that makes a probe due, if one is permitted now: from version 6 on, what was sent last may be sent
+    // again as a probe for its loss (RFC 8985, 7.3). The result is whether it was added.
+    fn add_probe(&mut self, key: EndpointKey, plan: &SegmentPlan) -> Result<bool, Stop> {
         let endpoint = self.endpoint(key);
         let is_last = endpoint.is_some_and(|endpoint| end_of(plan) == endpoint.snd_max());
         if !is_last || !self.world().header().version.says_sender() {
@@ -126,7 +126,7 @@ impl Progress {
     fn permit_old_data(&mut self, key: EndpointKey, plan: &SegmentPlan) -> Result<bool, Stop> {
         let endpoint = self.endpoint(key);
         let is_closed = endpoint.is_some_and(|endpoint| endpoint.window.snd_wnd == 0);
-        if is_closed && self.add_expiry(key, Timer::Persist)? || self.probe_with(key, plan)? {
+        if is_closed && self.add_expiry(key, Timer::Persist)? || self.add_probe(key, plan)? {
             return Ok(true);
         }
         if self.recovers_first(key) {
