@@ -366,6 +366,14 @@ class Strict(Watched):
         self.HEADER = ["trace 6", *self.HEADER[1:], "sender reno", "growth 1"]
 
 
+class Selective(Strict):
+    """Such a trace in which both SYNs permit SACK."""
+
+    def segment(self, host, ports, numbers, flags, payload):
+        text = super().segment(host, ports, numbers, flags, payload)
+        return f"{text[:24]}60{text[26:40]}01010402{text[40:]}" if flags & 0x02 else text
+
+
 def found_case(recording, *words):
     """The case that is found for a trace with duties, and the answer to it."""
     lines, witness, _ = find(recording.text(), *words)
@@ -534,6 +542,81 @@ class StricterDuties(unittest.TestCase):
             it.sent(2, 1, flags=0x11)
             it.stop(after)
             self.assertRegex(found_case(it)[2], expected)
+
+
+class Probes(unittest.TestCase):
+    """In version 6, what was sent last may be sent again as a probe for its loss, before its RTO."""
+    PIECE = b"x" * 100
+
+    def sent_again(self, it, piece, after):
+        """Three pieces are sent, and one of them again. Two round trips take 80 ms, and the RTO is a second."""
+        it.call(f"send {it.opener} {(3 * self.PIECE).hex()}", "ok 300")
+        for at in range(3):
+            it.sent(1 + 100 * at, 1, self.PIECE)
+        it.sent(1 + 100 * piece, 1, self.PIECE, after=after)
+        return it.moment
+
+    def assert_found(self, recording, added, expected):
+        lines, _, answer = found_case(recording)
+        timers = [line.split() for line in lines if " T " in line]
+        self.assertEqual([(int(timer[0]), timer[-1]) for timer in timers], added)
+        self.assertRegex(answer, expected)
+
+    def test_the_last_segment(self):
+        it = Selective(10_000)
+        moment = self.sent_again(it, 2, 90_000)
+        it.came(1, 301, after=it.CLOCK)
+        it.stop(2_000_000)
+        self.assert_found(it, [(moment, "pto")], "^yes")
+
+    def test_the_timer_restarts(self):
+        """The RTO counts from the probe, so its expiry isn't late."""
+        it = Selective(10_000)
+        moment = self.sent_again(it, 2, 90_000)
+        it.sent(1, 1, self.PIECE, after=1_000_000)
+        it.came(1, 301, after=it.CLOCK)
+        it.stop(2_000_000)
+        self.assert_found(it, [(moment, "pto"), (moment + 1_000_000, "rto")], "^yes")
+
+    def assert_lost(self, it, send):
+        """A segment is lost, and so is its probe, at the RTO. The next expiry comes one RTO later, and not two."""
+        moments = []
+        for after in (10, 1_000_000, 1_000_000, 2_000_000):
+            send(after)
+            moments.append(it.moment)
+        it.came(1, 2, after=it.CLOCK)
+        it.stop(1_000_000)
+        self.assert_found(it, list(zip(moments[1:], ("pto", "rto", "rto"))), "^yes")
+
+    def test_a_lost_probe_of_all_that_is_in_flight(self):
+        """An expiry is possible where the probe goes, too; only the next one shows that it was a probe."""
+        it = Selective(10_000)
+        it.call(f"send {it.opener} 78", "ok 1")
+        self.assert_lost(it, lambda after: it.sent(1, 1, b"x", after=after))
+
+    def test_a_lost_probe_by_a_fin(self):
+        it = Selective(10_000)
+        it.call(f"close {it.opener}", "ok")
+        self.assert_lost(it, lambda after: it.sent(1, 1, flags=0x11, after=after))
+
+    def test_new_data_as_a_probe(self):
+        """It restarts the timer, so the expiry isn't late."""
+        it = Selective(10_000)
+        it.call(f"send {it.opener} {(2 * self.PIECE).hex()}", "ok 200")
+        it.sent(1, 1, self.PIECE)
+        it.sent(101, 1, self.PIECE, after=90_000)
+        moment = it.moment
+        it.sent(1, 1, self.PIECE, after=1_000_000)
+        it.came(1, 201, after=it.CLOCK)
+        it.stop(1_000_000)
+        self.assert_found(it, [(moment, "pto"), (moment + 1_000_000, "rto")], "^yes")
+
+    def test_what_is_no_probe(self):
+        """It comes too early, isn't what was sent last, or the SYNs don't permit SACK."""
+        for kind, piece, after in ((Selective, 2, 70_000), (Selective, 1, 90_000), (Strict, 2, 90_000)):
+            it = kind(10_000)
+            self.sent_again(it, piece, after)
+            self.assert_found(it, [], "^no [0-9]+ 0 old-data$")
 
 
 if __name__ == "__main__":

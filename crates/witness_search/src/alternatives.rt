@@ -41,6 +41,8 @@ pub(crate) struct Known<'t> {
     are_copies: bool,
     /// Whether the congestion window is judged.
     is_full: bool,
+    /// Whether a probe for a loss may be sent: from version 6 on.
+    has_probes: bool,
 }
 
 // A line that is examined, the first time or the second.
@@ -75,6 +77,7 @@ impl<'t> Known<'t> {
             sent_before: sent_before(header, lines),
             are_copies: !header.version.is_half(),
             is_full: matches!(header.congestion, Judged::Full),
+            has_probes: header.version.says_sender(),
         })
     }
 
@@ -227,6 +230,9 @@ impl<'t> Known<'t> {
         if self.failure.rule != Rule::BytesDiffer {
             out.push(place, Change::Before(at, Remedy::Recovery))?;
             out.push(place, Change::Before(at, Remedy::Persist))?;
+            if self.has_probes {
+                out.push(place, Change::Before(at, Remedy::Pto))?;
+            }
             out.push(place, Change::Before(at, Remedy::Rto))?;
             out.push(place, Change::Before(at, Remedy::TimeWaitOver))?;
         }

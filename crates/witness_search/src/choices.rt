@@ -34,6 +34,8 @@ pub(crate) enum Fate {
 pub(crate) enum Remedy {
     Rto,
     Persist,
+    /// A probe for a loss is due (RFC 8985, 7.2).
+    Pto,
     TimeWaitOver,
     Recovery,
 }

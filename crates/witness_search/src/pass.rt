@@ -147,6 +147,7 @@ impl<'t> Pass<'t> {
         let timer = match remedy {
             Remedy::Rto => Timer::Rto,
             Remedy::Persist => Timer::Persist,
+            Remedy::Pto => Timer::Pto,
             Remedy::TimeWaitOver => Timer::Msl2,
             Remedy::Recovery => return self.progress.try_recovery(at),
         };

@@ -42,11 +42,16 @@ fn shift_of(seg: &Segment) -> Option<u8> {
     seg.scale.map(|shift| shift.min(14))
 }
 
+// The position after a segment's bytes and its FIN.
+fn end_of(plan: &SegmentPlan) -> u64 {
+    let len = u64::from(plan.len).saturating_add(u64::from(plan.flags.fin));
+    plan.pos.saturating_add(len)
+}
+
 // Whether a segment contains the oldest position that isn't acknowledged, and was sent before.
 fn holds_oldest(endpoint: &Endpoint, plan: &SegmentPlan) -> bool {
     let una = endpoint.stream.snd_una;
-    let len = u64::from(plan.len).saturating_add(u64::from(plan.flags.fin));
-    plan.pos <= una && una < plan.pos.saturating_add(len) && una < endpoint.snd_max()
+    plan.pos <= una && una < end_of(plan) && una < endpoint.snd_max()
 }
 
 // Whether a segment has neither bytes nor a SYN or FIN.
@@ -106,11 +111,22 @@ impl Progress {
         Ok(())
     }
 
-    // Does what permits old data to be sent again.
-    fn permit_old_data(&mut self, key: EndpointKey) -> Result<bool, Stop> {
+    // Adds a line that makes a probe due, if one is permitted now: from version 6 on, what was sent last may be sent
+    // again as a probe for its loss (RFC 8985, 7.3). The result is whether it was added.
+    fn add_probe(&mut self, key: EndpointKey, plan: &SegmentPlan) -> Result<bool, Stop> {
+        let endpoint = self.endpoint(key);
+        let is_last = endpoint.is_some_and(|endpoint| end_of(plan) == endpoint.snd_max());
+        if !is_last || !self.world().header().version.says_sender() {
+            return Ok(false);
+        }
+        self.add_expiry(key, Timer::Pto)
+    }
+
+    // Does what permits old data to be sent again in a segment.
+    fn permit_old_data(&mut self, key: EndpointKey, plan: &SegmentPlan) -> Result<bool, Stop> {
         let endpoint = self.endpoint(key);
         let is_closed = endpoint.is_some_and(|endpoint| endpoint.window.snd_wnd == 0);
-        if is_closed && self.add_expiry(key, Timer::Persist)? {
+        if is_closed && self.add_expiry(key, Timer::Persist)? || self.add_probe(key, plan)? {
             return Ok(true);
         }
         if self.recovers_first(key) {
@@ -209,7 +225,7 @@ impl<'t> Pass<'t> {
         match rule {
             // What precedes the segment was built, and no line shows it.
             Rule::OldData if is_after_gap => self.make_unseen(key, Unseen::One, plan.pos),
-            Rule::OldData | Rule::Resent => self.progress.permit_old_data(key),
+            Rule::OldData | Rule::Resent => self.progress.permit_old_data(key, &plan),
             Rule::Offered => self.progress.add_expiry(key, Timer::Persist),
             Rule::State | Rule::NoEndpoint if plan.flags.syn && !plan.flags.ack => self.reopen(key),
             Rule::PayloadRange | Rule::State | Rule::NoEndpoint => self.suppose_at(key),
