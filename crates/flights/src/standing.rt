@@ -9,6 +9,7 @@ ghost use Rattle.flights.specs.declared.standing.Loss.TheVariants as loss;
 
 use crate::flight::{Flight, goes_again};
 use crate::marks::old_part;
+use crate::probing::is_due;
 use crate::recovering::is_recovering;
 use crate::scoreboard::Scoreboard;
 use crate::sides::are_selective;
@@ -55,6 +56,10 @@ pub struct Standing {
     /// The first position of the segment that may not be sent again. If fast recovery begins: the first one in flight.
     pub position: u64,
     pub fate: Fate,
+    /// Whether a probe for a loss is due.
+    pub probe_is_due: bool,
+    /// The first position of the segment that the peer reported. None: it reported none, or the step builds none.
+    pub reported: Option<u64>,
 }
 
 impl Scoreboard {
@@ -124,6 +129,18 @@ impl Flight {
         if end < old.upto { Some(end) } else { None }
     }
 
+    // The first position of what a step sends again that the peer reported. None: it reported none.
+    fn first_reported(&self, event: &Event, v: &View) -> Option<u64> {
+        let Event::Builds(plan) = event else {
+            return None;
+        };
+        let old = old_part(v, plan);
+        match self.board.told.next_held(old.from) {
+            Some(position) if position < old.upto => Some(position),
+            Some(_) | None => None,
+        }
+    }
+
     // The position that decides whether a step is refused. None: none does.
     fn decisive(&self, clock: u128, event: &Event, v: &View) -> Option<u64> {
         match event {
@@ -154,6 +171,8 @@ impl Flight {
             },
             position,
             fate: self.board.fate_of(recovers, clock, position)?,
+            probe_is_due: is_due(self.probing.probe),
+            reported: self.first_reported(event, v),
         })
     }
 }

@@ -79,6 +79,14 @@ pub(crate) fn may_begin(duplicates: u32, it: Standing) -> bool {
 
 /// Whether this is known of a position that may not be sent again. `tail`: its segment ends with all that was sent.
 pub(crate) fn is_known_of_kept(it: Standing, tail: bool, known: Known) -> bool {
+    if it.probe_is_due {
+        let is_reported = tail && it.reported.is_some();
+        return if is_reported {
+            known == Known::Reported
+        } else {
+            known == Known::ProbeElsewhere
+        };
+    }
     match it.fate {
         Fate::Told => known == Known::Reported,
         Fate::InFlight { again, loss, .. } => match loss {
