@@ -9,13 +9,12 @@ ghost use Rattle.flights.specs.declared.standing.Loss.TheVariants as loss;
 
 use crate::flight::{Flight, goes_again};
 use crate::marks::old_part;
-use crate::probing::is_due;
 use crate::recovering::is_recovering;
 use crate::scoreboard::Scoreboard;
 use crate::sides::are_selective;
 use case_forms::SegmentPlan;
 use spec_duties::{Event, View};
-use spec_flights::Stretch;
+use spec_flights::{Probe, Stretch};
 use streams::{Outstanding, next_run};
 
 /// Whether a position that is in flight counts as lost.
@@ -56,8 +55,8 @@ pub struct Standing {
     /// The first position of the segment that may not be sent again. If fast recovery begins: the first one in flight.
     pub position: u64,
     pub fate: Fate,
-    /// Whether a probe for a loss is due.
-    pub probe_is_due: bool,
+    /// How far a probe for a loss is.
+    pub probe: Probe,
     /// The first position of the segment that the peer reported. None: it reported none, or the step builds none.
     pub reported: Option<u64>,
 }
@@ -171,7 +170,7 @@ impl Flight {
             },
             position,
             fate: self.board.fate_of(recovers, clock, position)?,
-            probe_is_due: is_due(self.probing.probe),
+            probe: self.probing.probe,
             reported: self.first_reported(event, v),
         })
     }

@@ -85,13 +85,15 @@ pub enum Known {
     Msl2Off,
     /// The timer is giveup, and isn't running.
     GiveupOff,
-    /// The timer is pto, and nothing is outstanding, or the handshake isn't done.
+    /// The timer is pto, and the handshake isn't done.
+    ProbeOfSyn,
+    /// The timer is pto, and nothing is outstanding.
     ProbeIdle,
     /// The timer is pto, and not both SYNs permitted SACK.
     ProbePlain,
     /// The timer is pto, and a recovery is going on.
     ProbeRecovers,
-    /// The timer is pto, and a probe is due or in transit.
+    /// The timer is pto, and a probe is due, or was sent and isn't acknowledged.
     ProbeTwice,
     /// The timer is pto, and the peer reported something outstanding.
     ProbeReported,
@@ -124,6 +126,8 @@ pub enum Known {
     NotLostYet,
     /// A probe for a loss is due, but the segment isn't the last one.
     ProbeElsewhere,
+    /// The segment is the last one, and a probe for a loss was sent. Nothing built later was delivered.
+    ProbeAgain,
     /// Both SYNs permitted SACK, no recovery is going on, and the segment is the last one. Nothing built later was
     /// delivered.
     TailProbe,
@@ -213,6 +217,8 @@ there, or has it later",
             Known::GiveupOff =>
                 "the stack gives up after fewer than three expiries, or with nothing outstanding",
             Known::IsUndone => "the witness undoes a recovery, which the model doesn't permit",
+            Known::ProbeOfSyn =>
+                "the stack probes for the loss of a SYN; probes are for data (RFC 8985, 7.2)",
             Known::ProbeIdle =>
                 "the stack probes for a loss though all is acknowledged (RFC 8985, 7.2), or the witness has the \
 acknowledgment too early",
@@ -247,6 +253,9 @@ sample",
                 "the stack counts data as lost earlier than RFC 6675 and RFC 8985 do",
             Known::ProbeElsewhere =>
                 "the stack probes for a loss with a segment that isn't the last one (RFC 8985, 7.3)",
+            Known::ProbeAgain =>
+                "the stack sends a second segment for one probe (RFC 8985, 7.3), or the trace lacks the expiry (a `T` \
+line)",
             Known::TailProbe =>
                 "the trace lacks the expiry (a `T` line), or that of a tail loss probe (`pto`: RFC 8985, 7)",
             Known::NothingLater =>
@@ -270,7 +279,9 @@ sample",
                 COARSE_CLOCK
             }
             Known::Reported => "the stack processed the SACK blocks later than the capture shows",
-            Known::SentTwice | Known::TailProbe | Known::NothingLater => LOST_ACK,
+            Known::SentTwice | Known::ProbeAgain | Known::TailProbe | Known::NothingLater => {
+                LOST_ACK
+            },
             Known::NotLostYet => COARSE_CLOCK,
             _ => "",
         }

@@ -1,7 +1,7 @@
 //! The rules of building segments.
 
 use crate::losses::say_kept;
-use crate::probes::say_not_due;
+use crate::probes::say_probe;
 use crate::scene::{Building, Scene};
 use crate::states::say_way_out;
 use crate::timers::say_unrestarted;
@@ -80,9 +80,7 @@ pub(crate) fn old_data(
             if let Some(standing) = scene.standing {
                 out.push_str("\n")?;
                 say_kept(out, scene.header().grain, standing)?;
-                if standing.probe_is_due {
-                    say_not_due(out, it, standing.reported)?;
-                }
+                say_probe(out, it, standing)?;
             } else if scene.header().version.says_sender() {
                 out.push_str(
                     "; no expiry and no fast recovery permits all of it to be sent again\n",

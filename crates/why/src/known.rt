@@ -179,6 +179,7 @@ fn is_known_of_built(scene: &Scene, it: Building, is_none: bool, known: Known) -
         | Known::SentTwice
         | Known::NotLostYet
         | Known::ProbeElsewhere
+        | Known::ProbeAgain
         | Known::TailProbe
         | Known::NothingLater => match scene.standing {
             Some(standing) => is_known_of_kept(standing, is_tail(it), known),

@@ -4,9 +4,10 @@ use crate::scene::{Building, Expiring, Scene};
 use crate::timers::handshake;
 use case_forms::OutOfMemory;
 use endpoint_state::Endpoint;
-use flights::{ProbeStanding, ProbeWait};
+use flights::{ProbeStanding, ProbeWait, Standing};
 use plain_words::{Known, word_if};
 use replayed::end_of;
+use spec_flights::Probe;
 use spec_tcp::EndpointId;
 
 /// Why no probe may be sent.
@@ -23,13 +24,17 @@ pub(crate) fn off(out: &mut String, scene: &Scene, it: Expiring) -> Result<(), O
         );
     }
     match standing_of(scene) {
-        Some(standing) => say_kept(out, una, standing),
+        Some(standing) => say_kept(out, endpoint, standing),
         None => Ok(()),
     }
 }
 
 // What keeps an endpoint with something outstanding from probing.
-fn say_kept(out: &mut String, una: u64, it: ProbeStanding) -> Result<(), OutOfMemory> {
+fn say_kept(
+    out: &mut String,
+    endpoint: &Endpoint,
+    it: ProbeStanding,
+) -> Result<(), OutOfMemory> {
     match it {
         ProbeStanding::Plain { own, peers } => {
             let which = which_forbids(own, peers);
@@ -38,17 +43,17 @@ fn say_kept(out: &mut String, una: u64, it: ProbeStanding) -> Result<(), OutOfMe
                 "{which} didn't permit SACK, which probes for a loss need"
             )
         }
-        ProbeStanding::Recovers(upto) => writeln!(
-            out,
-            "a recovery is going on: it ends once all below {upto} is acknowledged, and SND.UNA is {una}"
-        ),
-        ProbeStanding::Due => out.push_str(
-            "a tail loss probe is due already: the next segment with data is the probe\n",
-        ),
-        ProbeStanding::Out(upto) => writeln!(
-            out,
-            "a tail loss probe is in transit until all below {upto} is acknowledged, and SND.UNA is {una}"
-        ),
+        ProbeStanding::Recovers(upto) => {
+            let una = endpoint.stream.snd_una;
+            writeln!(
+                out,
+                "a recovery is going on: it ends once all below {upto} is acknowledged, and SND.UNA is {una}"
+            )
+        }
+        ProbeStanding::Due => {
+            out.push_str("the last tail loss probe is still due: the next segment with data is it\n")
+        }
+        ProbeStanding::Out(upto) => say_sent(out, upto, endpoint),
         ProbeStanding::Unsent => out.push_str("nothing was sent yet\n"),
         ProbeStanding::Reported(position) => writeln!(
             out,
@@ -100,7 +105,7 @@ fn earliest(scene: &Scene, wait: ProbeWait) -> u128 {
         .max(u128::from(wait.quiet))
 }
 
-/// Writes whether a probe is due or on its way, or from when on one may be sent, if one may.
+/// Writes whether a probe is due or was sent, or from when on one may be sent, if one may.
 pub(crate) fn describe_probe(
     out: &mut String,
     scene: &Scene,
@@ -111,7 +116,7 @@ pub(crate) fn describe_probe(
     match scene.probe_standing(id) {
         Some(ProbeStanding::Due) => out.push_str("  a tail loss probe is due\n"),
         Some(ProbeStanding::Out(upto)) => {
-            writeln!(out, "  a tail loss probe is in transit, up to {upto}")
+            writeln!(out, "  a tail loss probe was sent, up to {upto}")
         }
         Some(ProbeStanding::Waits(wait)) if is_outstanding => {
             let from = earliest(scene, wait);
@@ -128,7 +133,10 @@ fn standing_of(scene: &Scene) -> Option<ProbeStanding> {
 
 /// Whether this is known of a line that makes a probe due.
 pub(crate) fn is_known_of_probe(scene: &Scene, it: Expiring, known: Known) -> bool {
-    if it.endpoint.snd_max() <= it.endpoint.stream.snd_una || !it.endpoint.is_up() {
+    if !it.endpoint.is_up() {
+        return known == Known::ProbeOfSyn;
+    }
+    if it.endpoint.snd_max() <= it.endpoint.stream.snd_una {
         return known == Known::ProbeIdle;
     }
     let found = match standing_of(scene) {
@@ -142,20 +150,34 @@ pub(crate) fn is_known_of_probe(scene: &Scene, it: Expiring, known: Known) -> bo
     known == found
 }
 
-/// Why a segment isn't the probe that is due.
-pub(crate) fn say_not_due(
+/// Why a segment isn't the probe that is due, or was before.
+pub(crate) fn say_probe(
     out: &mut String,
     it: Building,
-    reported: Option<u64>,
+    standing: Standing,
 ) -> Result<(), OutOfMemory> {
     let sent = it.endpoint.snd_max();
-    match reported {
-        Some(position) if is_tail(it) => writeln!(
+    match (standing.probe, standing.reported) {
+        (Probe::Nothing, _) => Ok(()),
+        (Probe::Due, Some(position)) if is_tail(it) => writeln!(
             out,
             "a tail loss probe is due, but may not have position {position}, which SACK blocks report"
         ),
-        Some(_) | None => writeln!(out, "a tail loss probe is due, but has to end at {sent}"),
+        (Probe::Due, _) => writeln!(
+            out,
+            "a tail loss probe is due, but has to end at {sent}, or to begin there"
+        ),
+        (Probe::Out(upto), _) => say_sent(out, upto, it.endpoint),
     }
+}
+
+// When the next probe may be sent, after the last one, which ended at this position.
+fn say_sent(out: &mut String, upto: u64, endpoint: &Endpoint) -> Result<(), OutOfMemory> {
+    let una = endpoint.stream.snd_una;
+    writeln!(
+        out,
+        "a tail loss probe was sent: the next one has to wait until all below {upto} is acknowledged, and SND.UNA is {una}"
+    )
 }
 
 /// Whether a segment ends with all that was sent.
