@@ -275,9 +275,8 @@ line)",
             Known::OtherBytes => REWRITTEN,
             Known::NeverSent => "the capture lost the segment",
             Known::NotRestarted | Known::NotDoubled | Known::Unsampled => COARSE_CLOCK,
-            Known::BelowMinimum | Known::PersistEarly | Known::Msl2Early | Known::ProbeEarly => {
-                COARSE_CLOCK
-            }
+            Known::BelowMinimum | Known::PersistEarly => COARSE_CLOCK,
+            Known::Msl2Early | Known::ProbeEarly => COARSE_CLOCK,
             Known::Reported => "the stack processed the SACK blocks later than the capture shows",
             Known::SentTwice | Known::ProbeAgain | Known::TailProbe | Known::NothingLater => {
                 LOST_ACK
