@@ -278,9 +278,8 @@ line)",
             Known::BelowMinimum | Known::PersistEarly => COARSE_CLOCK,
             Known::Msl2Early | Known::ProbeEarly => COARSE_CLOCK,
             Known::Reported => "the stack processed the SACK blocks later than the capture shows",
-            Known::SentTwice | Known::ProbeAgain | Known::TailProbe | Known::NothingLater => {
-                LOST_ACK
-            },
+            Known::SentTwice | Known::ProbeAgain => LOST_ACK,
+            Known::TailProbe | Known::NothingLater => LOST_ACK,
             Known::NotLostYet => COARSE_CLOCK,
             _ => "",
         }

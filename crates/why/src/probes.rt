@@ -176,7 +176,8 @@ fn say_sent(out: &mut String, upto: u64, endpoint: &Endpoint) -> Result<(), OutO
     let una = endpoint.stream.snd_una;
     writeln!(
         out,
-        "a tail loss probe was sent: the next one has to wait until all below {upto} is acknowledged, and SND.UNA is {una}"
+        "a tail loss probe was sent: the next one has to wait until all below {upto} is acknowledged, and SND.UNA is \
+{una}"
     )
 }
 
