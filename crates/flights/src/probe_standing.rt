@@ -42,19 +42,24 @@ pub enum ProbeStanding {
     Waits(ProbeWait),
 }
 
+// When a probe may be sent if nothing came or went since.
+fn wait_since(v: &View, quiet: u64) -> ProbeWait {
+    ProbeWait {
+        quiet,
+        time: probe_timeout(v),
+        due: probe_moment(v, quiet),
+    }
+}
+
 impl Flight {
     // The same where no recovery is going on, and no probe is due or on its way.
     fn probe_wait(&self, v: &View) -> ProbeStanding {
         let Some(quiet) = self.probing.quiet else {
             return ProbeStanding::Unsent;
         };
-        match self.board.told.next_held(v.snd_una) {
-            Some(position) if position < v.snd_max => ProbeStanding::Reported(position),
-            Some(_) | None => ProbeStanding::Waits(ProbeWait {
-                quiet,
-                time: probe_timeout(v),
-                due: probe_moment(v, quiet),
-            }),
+        match self.board.first_told(v.snd_una, v.snd_max) {
+            Some(position) => ProbeStanding::Reported(position),
+            None => ProbeStanding::Waits(wait_since(v, quiet)),
         }
     }
 

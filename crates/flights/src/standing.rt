@@ -96,6 +96,14 @@ impl Scoreboard {
         })
     }
 
+    /// The first position from one to before another that the peer reported. None: it reported none.
+    pub(crate) fn first_told(&self, from: u64, upto: u64) -> Option<u64> {
+        match self.told.next_held(from) {
+            Some(position) if position < upto => Some(position),
+            Some(_) | None => None,
+        }
+    }
+
     // The first position in flight. None: none is.
     fn first_in_flight(&self, v: &View) -> Option<u64> {
         Some(next_run(&self.known, &self.told, v.snd_una, v.snd_max)?.from)
@@ -134,10 +142,7 @@ impl Flight {
             return None;
         };
         let old = old_part(v, plan);
-        match self.board.told.next_held(old.from) {
-            Some(position) if position < old.upto => Some(position),
-            Some(_) | None => None,
-        }
+        self.board.first_told(old.from, old.upto)
     }
 
     // The position that decides whether a step is refused. None: none does.
