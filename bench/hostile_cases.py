@@ -1250,6 +1250,35 @@ def selective_windows_that_open_over_holes(count):
     return sender.case
 
 
+@kind(25_000, 50_000, 100_000)
+def selective_tail_probes_along_a_transfer(count):
+    """Two bytes are sent at a time. The last one goes again as a tail loss probe, and both are acknowledged."""
+    sender = Sender(2 * count)
+    for _ in range(count):
+        sender.build_singly(2)
+        sender.expire("pto")
+        sender.build_again(sender.end - 1)
+        sender.hear(sender.end)
+    return sender.case
+
+
+@kind(25_000, 50_000, 100_000)
+def selective_tail_probes_after_what_was_told(count):
+    """A tail loss probe of new data goes, and other bytes behind it. Every second one is told, and then all but the
+    last are acknowledged. There are as many probes as bytes behind each of them."""
+    size = max(2, math.isqrt(count))
+    sender = Sender(size * (size + 1) + 1)
+    sender.build()
+    for _ in range(size):
+        sender.expire("pto")
+        first = sender.build()
+        sender.build_singly(size)
+        for positions in in_fours(range(first + 1, sender.end - 1, 2)):
+            sender.tell(positions)
+        sender.hear(sender.end - 1)
+    return sender.case
+
+
 def recoveries_without_a_loss(count, place):
     """Again and again, all that was accepted is sent in segments of one byte, and three duplicates come. Then one byte
     goes again, and all is acknowledged. There are as many recoveries as bytes in each of them."""

@@ -22,8 +22,8 @@ use streams::Ranges;
 use verdict::Rule;
 
 /// What is kept of an endpoint: what the two SYNs permit, from which loss it recovers, which positions are marked, what
-/// is known of each outstanding one, whether it made use of a rescue since the recovery began, and how far a probe for a
-/// loss is.
+/// is known of each outstanding one, whether it made use of a rescue since the recovery began, and how far a probe for
+/// a loss is.
 #[derive(Drop)]
 pub(crate) struct Flight {
     pub(crate) sides: Sides,

@@ -10,6 +10,7 @@ ghost use Rattle.spec_flights.specs.Flights.{refusal, start, unflown};
 ghost use Rattle.spec_duties.specs.Resent.{judges_repeats};
 
 use crate::flight::Flight;
+use crate::probe_standing::ProbeStanding;
 use crate::standing::Standing;
 use case_forms::{Header, Host, Judged, OutOfMemory};
 use spec_duties::{Observation, TouchedEndpoint, View};
@@ -198,6 +199,25 @@ impl Flights {
         };
         let flight = tables.get(touched.host).get(u64::from(touched.place))?;
         flight.standing(clock_at(header, moment), &touched.event, &touched.before)
+    }
+
+    /// Whether an endpoint that is seen like this may probe for a loss, and if not, why. None: the version is 1 to 5.
+    pub fn probe_standing(
+        &self,
+        header: &Header,
+        host: Host,
+        place: u32,
+        v: &View,
+    ) -> Option<ProbeStanding> {
+        if !header.version.says_sender() {
+            return None;
+        }
+        if let Some(tables) = &self.tables {
+            if let Some(flight) = tables.get(host).get(u64::from(place)) {
+                return Some(flight.probe_standing(v));
+            }
+        }
+        Some(Flight::new(self.alloc).probe_standing(v))
     }
 
     // The tables, taken out, or new ones.

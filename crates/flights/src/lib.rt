@@ -13,7 +13,8 @@
 //! - `late`: what is lost; `delivered`: what an acknowledgment delivers
 //! - `marks`: which positions a step marks, and from which it takes the mark
 //! - `flight`: what is kept of an endpoint; `free`: what may be sent again
-//! - `standing`: what an endpoint knows of a position that it sent, for explanations
+//! - `standing`: what an endpoint knows of a position that it sent, for explanations; `probe_standing`: what keeps it
+//!   from probing for a loss
 //! - `flights`: what is kept of all endpoints, what it refuses, and what is kept after a step
 //! - `laws`: what follows from steps that aren't refused
 #![tactic(auto)]
@@ -25,6 +26,7 @@ mod free;
 mod late;
 mod laws;
 mod marks;
+mod probe_standing;
 mod probing;
 mod recovering;
 mod scoreboard;
@@ -35,4 +37,5 @@ mod walk;
 
 pub use flights::Flights;
 pub use laws::what_is_told_stays;
+pub use probe_standing::{ProbeStanding, ProbeWait};
 pub use standing::{Fate, Loss, Standing};

@@ -39,8 +39,8 @@ pub(crate) fn is_none(probe: Probe) -> bool
     }
 }
 
-// How long nothing may come or go before a probe, in microseconds.
-fn probe_timeout(v: &View) -> u128
+/// How long nothing may come or go before a probe, in microseconds.
+pub(crate) fn probe_timeout(v: &View) -> u128
     ensures exact { result ≡ probe_timeout v.now }
     ensures limit { result < 2 ^ 66 }
 {

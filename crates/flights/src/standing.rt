@@ -14,7 +14,7 @@ use crate::scoreboard::Scoreboard;
 use crate::sides::are_selective;
 use case_forms::SegmentPlan;
 use spec_duties::{Event, View};
-use spec_flights::Stretch;
+use spec_flights::{Probe, Stretch};
 use streams::{Outstanding, next_run};
 
 /// Whether a position that is in flight counts as lost.
@@ -55,6 +55,10 @@ pub struct Standing {
     /// The first position of the segment that may not be sent again. If fast recovery begins: the first one in flight.
     pub position: u64,
     pub fate: Fate,
+    /// How far a probe for a loss is.
+    pub probe: Probe,
+    /// The first position of the segment that the peer reported. None: it reported none, or the step builds none.
+    pub reported: Option<u64>,
 }
 
 impl Scoreboard {
@@ -92,6 +96,14 @@ impl Scoreboard {
         })
     }
 
+    /// The first position from one to before another that the peer reported. None: it reported none.
+    pub(crate) fn first_told(&self, from: u64, upto: u64) -> Option<u64> {
+        match self.told.next_held(from) {
+            Some(position) if position < upto => Some(position),
+            Some(_) | None => None,
+        }
+    }
+
     // The first position in flight. None: none is.
     fn first_in_flight(&self, v: &View) -> Option<u64> {
         Some(next_run(&self.known, &self.told, v.snd_una, v.snd_max)?.from)
@@ -124,6 +136,15 @@ impl Flight {
         if end < old.upto { Some(end) } else { None }
     }
 
+    // The first position of what a step sends again that the peer reported. None: it reported none.
+    fn first_reported(&self, event: &Event, v: &View) -> Option<u64> {
+        let Event::Builds(plan) = event else {
+            return None;
+        };
+        let old = old_part(v, plan);
+        self.board.first_told(old.from, old.upto)
+    }
+
     // The position that decides whether a step is refused. None: none does.
     fn decisive(&self, clock: u128, event: &Event, v: &View) -> Option<u64> {
         match event {
@@ -154,6 +175,8 @@ impl Flight {
             },
             position,
             fate: self.board.fate_of(recovers, clock, position)?,
+            probe: self.probing.probe,
+            reported: self.first_reported(event, v),
         })
     }
 }

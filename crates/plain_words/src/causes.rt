@@ -85,8 +85,20 @@ pub enum Known {
     Msl2Off,
     /// The timer is giveup, and isn't running.
     GiveupOff,
-    /// The timer is pto.
-    ProbesForLoss,
+    /// The timer is pto, and the handshake isn't done.
+    ProbeOfSyn,
+    /// The timer is pto, and nothing is outstanding.
+    ProbeIdle,
+    /// The timer is pto, and not both SYNs permitted SACK.
+    ProbePlain,
+    /// The timer is pto, and a recovery is going on.
+    ProbeRecovers,
+    /// The timer is pto, and a probe is due, or was sent and isn't acknowledged.
+    ProbeTwice,
+    /// The timer is pto, and the peer reported something outstanding.
+    ProbeReported,
+    /// The timer is pto, and expires too early.
+    ProbeEarly,
     /// The step undoes a recovery.
     IsUndone,
     /// The segment acknowledges nothing new, or is a reset.
@@ -112,6 +124,10 @@ pub enum Known {
     SentTwice,
     /// Both SYNs permitted SACK, and something built later was delivered, but the data doesn't count as lost yet.
     NotLostYet,
+    /// A probe for a loss is due, but the segment isn't the last one.
+    ProbeElsewhere,
+    /// The segment is the last one, and a probe for a loss was sent. Nothing built later was delivered.
+    ProbeAgain,
     /// Both SYNs permitted SACK, no recovery is going on, and the segment is the last one. Nothing built later was
     /// delivered.
     TailProbe,
@@ -201,9 +217,22 @@ there, or has it later",
             Known::GiveupOff =>
                 "the stack gives up after fewer than three expiries, or with nothing outstanding",
             Known::IsUndone => "the witness undoes a recovery, which the model doesn't permit",
-            Known::ProbesForLoss =>
-                "the trace shows a probe for a loss, which the model doesn't permit: without the line, the segment \
-that is sent again needs another reason",
+            Known::ProbeOfSyn =>
+                "the stack probes for the loss of a SYN; probes are for data (RFC 8985, 7.2)",
+            Known::ProbeIdle =>
+                "the stack probes for a loss though all is acknowledged (RFC 8985, 7.2), or the witness has the \
+acknowledgment too early",
+            Known::ProbePlain =>
+                "the stack probes for a loss without SACK, which RFC 8985, 4, requires",
+            Known::ProbeRecovers =>
+                "the stack probes for a loss while it recovers from one (RFC 8985, 7.2)",
+            Known::ProbeTwice =>
+                "the stack probes for a loss again before the last probe is acknowledged (RFC 8985, 7.3)",
+            Known::ProbeReported =>
+                "the stack probes for a loss though SACK blocks report what was sent later (RFC 8985, 7.2)",
+            Known::ProbeEarly =>
+                "the stack probes for a loss sooner than after two round trips (RFC 8985, 7.2), or the witness lacks \
+a sample",
             Known::NothingNew =>
                 "the witness has sample 1 for a reset, or for a segment that acknowledges nothing new",
             Known::NotRestarted =>
@@ -222,9 +251,13 @@ sample",
                 "the stack sends data twice for one loss, or the trace lacks the expiry (a `T` line)",
             Known::NotLostYet =>
                 "the stack counts data as lost earlier than RFC 6675 and RFC 8985 do",
+            Known::ProbeElsewhere =>
+                "the stack probes for a loss with a segment that isn't the last one (RFC 8985, 7.3)",
+            Known::ProbeAgain =>
+                "the stack sends a second segment for one probe (RFC 8985, 7.3), or the trace lacks the expiry (a `T` \
+line)",
             Known::TailProbe =>
-                "the stack sends a tail loss probe (RFC 8985, 7), which the model doesn't permit, or the trace \
-lacks the expiry (a `T` line)",
+                "the trace lacks the expiry (a `T` line), or that of a tail loss probe (`pto`: RFC 8985, 7)",
             Known::NothingLater =>
                 "the stack retransmits data that isn't lost, or the trace lacks the expiry (a `T` line)",
             Known::StillRecovers =>
@@ -242,9 +275,11 @@ lacks the expiry (a `T` line)",
             Known::OtherBytes => REWRITTEN,
             Known::NeverSent => "the capture lost the segment",
             Known::NotRestarted | Known::NotDoubled | Known::Unsampled => COARSE_CLOCK,
-            Known::BelowMinimum | Known::PersistEarly | Known::Msl2Early => COARSE_CLOCK,
+            Known::BelowMinimum | Known::PersistEarly => COARSE_CLOCK,
+            Known::Msl2Early | Known::ProbeEarly => COARSE_CLOCK,
             Known::Reported => "the stack processed the SACK blocks later than the capture shows",
-            Known::SentTwice | Known::TailProbe | Known::NothingLater => LOST_ACK,
+            Known::SentTwice | Known::ProbeAgain => LOST_ACK,
+            Known::TailProbe | Known::NothingLater => LOST_ACK,
             Known::NotLostYet => COARSE_CLOCK,
             _ => "",
         }

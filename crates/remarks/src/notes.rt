@@ -101,7 +101,8 @@ impl Note {
                 self.add_probe(now.moment);
                 self.permits.add(Permit::Persist(now.line));
             }
-            Timer::Msl2 | Timer::Giveup | Timer::Pto => {}
+            Timer::Pto => self.permits.add(Permit::Pto(now.line)),
+            Timer::Msl2 | Timer::Giveup => {}
         }
     }
 
@@ -160,6 +161,8 @@ pub(crate) enum Permit {
     Rto(u64),
     /// An expiry of the persist timer, in this line.
     Persist(u64),
+    /// A tail loss probe was due, in this line.
+    Pto(u64),
     /// Fast recovery began.
     Recovery,
     /// A closed window opened by the segment of this line.
@@ -172,6 +175,7 @@ impl fmt::Display for Permit {
             Permit::Nothing => write!(f, "without an expiry"),
             Permit::Rto(line) => write!(f, "after one rto expiry (line {line})"),
             Permit::Persist(line) => write!(f, "after one persist expiry (line {line})"),
+            Permit::Pto(line) => write!(f, "after one pto expiry (line {line})"),
             Permit::Recovery => write!(f, "in one fast recovery"),
             Permit::Opening(line) => write!(f, "after the window opened once (line {line})"),
         }

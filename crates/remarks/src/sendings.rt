@@ -51,7 +51,7 @@ impl Sending {
         let controls = u64::from(plan.flags.syn) + u64::from(plan.flags.fin);
         let end = plan.pos.saturating_add(u64::from(plan.len) + controls);
         let mut permits = note.permits;
-        if endpoint.recover <= plan.pos {
+        if endpoint.recover <= plan.pos && !matches!(permits.last, Permit::Pto(_)) {
             permits.last = Permit::Nothing;
         }
         Sending {

@@ -1,6 +1,7 @@
 //! The rules of building segments.
 
 use crate::losses::say_kept;
+use crate::probes::say_probe;
 use crate::scene::{Building, Scene};
 use crate::states::say_way_out;
 use crate::timers::say_unrestarted;
@@ -59,8 +60,9 @@ pub(crate) fn congestion(
 pub(crate) fn old_data(
     out: &mut String,
     scene: &Scene,
-    Building { plan, endpoint, .. }: Building,
+    it: Building,
 ) -> Result<(), OutOfMemory> {
+    let (plan, endpoint) = (it.plan, it.endpoint);
     let (pos, end, una) = (plan.pos, end_of(plan), endpoint.stream.snd_una);
     let (sent, recover) = (endpoint.snd_max(), endpoint.recover);
     let fin = word_if(plan.flags.fin, " with a FIN");
@@ -78,6 +80,7 @@ pub(crate) fn old_data(
             if let Some(standing) = scene.standing {
                 out.push_str("\n")?;
                 say_kept(out, scene.header().grain, standing)?;
+                say_probe(out, it, standing)?;
             } else if scene.header().version.says_sender() {
                 out.push_str(
                     "; no expiry and no fast recovery permits all of it to be sent again\n",

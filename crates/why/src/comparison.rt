@@ -218,7 +218,7 @@ fn of_expiring(
     match rule {
         Rule::NoEndpoint => out.push_str("the endpoint is CLOSED, and has no timers\n"),
         Rule::Growth => timers::growth(out, scene, it),
-        Rule::TimerOff => timers::off(out, it),
+        Rule::TimerOff => timers::off(out, scene, it),
         Rule::TimerEarly => timers::early(out, scene, it),
         _ => Ok(()),
     }

@@ -1,6 +1,7 @@
 //! An endpoint in words.
 
 use crate::owed::describe_owed;
+use crate::probes::describe_probe;
 use crate::scene::Scene;
 use case_forms::{Host, OutOfMemory};
 use endpoint_state::Endpoint;
@@ -53,6 +54,7 @@ pub(crate) fn describe(out: &mut String, scene: &Scene, id: EndpointId) -> Resul
     write!(out, "{when}, {}'s endpoint ", HostName(id.host))?;
     writeln!(out, "{lport} -> {rport}: {state}")?;
     describe_values(out, endpoint)?;
+    describe_probe(out, scene, id, endpoint)?;
     describe_owed(out, scene, id, endpoint)
 }
 

@@ -4,6 +4,7 @@ use crate::arrivals::acknowledges_more;
 use crate::builds::is_of_another_state;
 use crate::losses::{is_known_of_beginning, is_known_of_kept};
 use crate::other_windows::say_fitting;
+use crate::probes::{is_known_of_probe, is_tail};
 use crate::scene::{Building, Expiring, Object, Processing, Scene};
 use crate::sendable::sendable_bytes;
 use crate::{resets, wire};
@@ -103,7 +104,7 @@ fn is_known_of_timer(scene: &Scene, it: Expiring, known: Known) -> bool {
         },
         Timer::Msl2 => matches!(known, Known::Msl2Off | Known::Msl2Early),
         Timer::Giveup => known == Known::GiveupOff,
-        Timer::Pto => known == Known::ProbesForLoss,
+        Timer::Pto => is_known_of_probe(scene, it, known),
     }
 }
 
@@ -177,6 +178,8 @@ fn is_known_of_built(scene: &Scene, it: Building, is_none: bool, known: Known) -
         Known::Reported
         | Known::SentTwice
         | Known::NotLostYet
+        | Known::ProbeElsewhere
+        | Known::ProbeAgain
         | Known::TailProbe
         | Known::NothingLater => match scene.standing {
             Some(standing) => is_known_of_kept(standing, is_tail(it), known),
@@ -184,12 +187,6 @@ fn is_known_of_built(scene: &Scene, it: Building, is_none: bool, known: Known) -
         },
         _ => is_known_of(it, is_none, known),
     }
-}
-
-// Whether a segment ends with all that was sent.
-fn is_tail(it: Building) -> bool {
-    let fin = u64::from(it.plan.flags.fin);
-    it.endpoint.snd_max() == end_of(it.plan).saturating_add(fin)
 }
 
 // The same for what the endpoint's values show.

@@ -3,6 +3,7 @@
 use case_forms::OutOfMemory;
 use flights::{Fate, Loss, Standing};
 use plain_words::{Known, word_if};
+use spec_flights::Probe;
 
 /// Why a position may not be sent again.
 pub(crate) fn say_kept(out: &mut String, grain: u64, it: Standing) -> Result<(), OutOfMemory> {
@@ -79,6 +80,14 @@ pub(crate) fn may_begin(duplicates: u32, it: Standing) -> bool {
 
 /// Whether this is known of a position that may not be sent again. `tail`: its segment ends with all that was sent.
 pub(crate) fn is_known_of_kept(it: Standing, tail: bool, known: Known) -> bool {
+    if let Probe::Due = it.probe {
+        let is_reported = tail && it.reported.is_some();
+        return if is_reported {
+            known == Known::Reported
+        } else {
+            known == Known::ProbeElsewhere
+        };
+    }
     match it.fate {
         Fate::Told => known == Known::Reported,
         Fate::InFlight { again, loss, .. } => match loss {
@@ -86,10 +95,18 @@ pub(crate) fn is_known_of_kept(it: Standing, tail: bool, known: Known) -> bool {
             Loss::Later { .. } => known == Known::NotLostYet,
             Loss::Unknown => match it.recovers_upto {
                 Some(_) if again => known == Known::SentTwice,
-                None if tail => known == Known::TailProbe,
+                None if tail => known == known_of_tail(it.probe),
                 Some(_) | None => known == Known::NothingLater,
             },
         },
+    }
+}
+
+// What is known of the last segment, if nothing permits sending it again.
+fn known_of_tail(probe: Probe) -> Known {
+    match probe {
+        Probe::Nothing | Probe::Due => Known::TailProbe,
+        Probe::Out(_) => Known::ProbeAgain,
     }
 }
 

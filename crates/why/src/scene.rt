@@ -7,9 +7,9 @@ use case_forms::{
     Answer, Event, Extras, Header, Host, Label, Line, NamedLine, Recovery, SegmentPlan, Step,
     TakeChoice, Timer, Wire,
 };
-use duties::Duties;
+use duties::{Duties, view_of};
 use endpoint_state::{Endpoint, World};
-use flights::Standing;
+use flights::{Flights, ProbeStanding, Standing};
 use replayed::{Case, Debtor, Held, Refusal, Replay, ReplayFault, line_at, socket_of};
 use spec_tcp::{Arrived, Emission, EndpointId};
 use std::alloc::Global;
@@ -79,6 +79,7 @@ impl<'c> Past<'c> {
             step,
             world: replay.world(),
             duties: replay.duties(),
+            flights: replay.flights(),
             used: &self.used,
             others: self.others.as_ref(),
             restarts: self.restarts,
@@ -107,6 +108,7 @@ pub(crate) struct Scene<'c> {
     pub step: Option<&'c Step>,
     pub world: &'c World,
     pub duties: &'c Duties,
+    flights: &'c Flights,
     /// For each line used, the line of the witness that used it.
     pub used: &'c BTreeMap<u64, u64>,
     /// If the step builds a segment, other windows of the endpoint that builds it.
@@ -299,6 +301,14 @@ impl<'c> Scene<'c> {
             Label::R { host, line } => self.taker(*host, self.world.waiting(*host, *line)?),
             _ => None,
         }
+    }
+
+    /// Whether an endpoint may probe for a loss, and if not, why. None: the version is 1 to 5.
+    pub(crate) fn probe_standing(&self, id: EndpointId) -> Option<ProbeStanding> {
+        let endpoint = self.world.body(id.host).endpoint_at(id.number)?;
+        let view = view_of(endpoint);
+        self.flights
+            .probe_standing(self.header(), id.host, id.number, &view)
     }
 
     /// Whether the step builds a segment.

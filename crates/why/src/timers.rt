@@ -1,6 +1,7 @@
 //! The rules of expiries and of fast recovery.
 
 use crate::losses::say_loss;
+use crate::probes;
 use crate::scene::{Expiring, Scene};
 use crate::sendable::say_sendable;
 use crate::states::say_way_out;
@@ -29,7 +30,7 @@ pub(crate) fn growth(out: &mut String, scene: &Scene, it: Expiring) -> Result<()
 }
 
 /// Why a timer can't expire at all.
-pub(crate) fn off(out: &mut String, it: Expiring) -> Result<(), OutOfMemory> {
+pub(crate) fn off(out: &mut String, scene: &Scene, it: Expiring) -> Result<(), OutOfMemory> {
     match it.timer {
         Timer::Rto => {
             let (una, sent) = (it.endpoint.stream.snd_una, it.endpoint.snd_max());
@@ -44,7 +45,7 @@ pub(crate) fn off(out: &mut String, it: Expiring) -> Result<(), OutOfMemory> {
             say_way_out(out, it.endpoint)
         }
         Timer::Giveup => giveup_off(out, it.endpoint),
-        Timer::Pto => out.push_str("no endpoint of the model probes for a loss (RFC 8985, 7)\n"),
+        Timer::Pto => probes::off(out, scene, it),
     }
 }
 
@@ -103,9 +104,8 @@ pub(crate) fn early(out: &mut String, scene: &Scene, it: Expiring) -> Result<(),
     let (armed, time) = match it.timer {
         Timer::Rto => (timers.rto_armed, timers.rto),
         Timer::Persist => (timers.persist_armed, timers.rto),
-        Timer::Msl2 | Timer::Giveup | Timer::Pto => {
-            (timers.msl_armed, header.msl.saturating_mul(2))
-        }
+        Timer::Msl2 | Timer::Giveup => (timers.msl_armed, header.msl.saturating_mul(2)),
+        Timer::Pto => return probes::early(out, scene, it),
     };
     let (since, grain) = (armed.unwrap_or(0), header.grain);
     let earliest = since.saturating_add(time).saturating_sub(grain).max(since);

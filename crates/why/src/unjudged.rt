@@ -25,7 +25,9 @@ pub(crate) fn say_unjudged(out: &mut String, scene: &Scene, rule: Rule) -> Resul
         | Version::Six
         | Version::SixHalf => { ("", " in the header") }
     };
-    let condition = word_if(rule == Rule::OldData, " if an F step comes first");
+    // In version 6, the level `none` judges no data that goes again.
+    let needs_recovery = rule == Rule::OldData && !header.version.says_sender();
+    let condition = word_if(needs_recovery, " if an F step comes first");
     let stacks = match rule {
         // Version 6 judges SACK.
         Rule::OldData | Rule::Recovery if header.version.says_sender() => "",
