@@ -1,18 +1,23 @@
 //! What is kept of an endpoint.
 
-ghost use Rattle.std.specs.Prelude.{◌≡◌, OnOk};
+ghost use Rattle.std.specs.Prelude.{◌≡◌, ◌<◌, ◌^◌, OnOk};
+ghost use Rattle.std.specs.FinSet.{from_list};
+ghost use Rattle.segment.specs.Reading.{sack_blocks};
 ghost use Rattle.spec_flights.specs.Flights.{broken_at, finds_lost, flight_after};
 ghost use Rattle.spec_flights.specs.Flights.{goes_again, marks_oldest, may_begin, number_built, rescued_after, unflown};
 ghost use Rattle.spec_flights.specs.Flights.{uses_rescue};
+ghost use Rattle.spec_flights.specs.Held.{is_untrue};
 ghost use Rattle.spec_flights.specs.Marks.{marks_after};
 
 use crate::delivered::{read_reports, remove_reports};
+use crate::held::{is_untrue, note_held};
 use crate::marks::{is_fin_alone, making_length, marked_by, old_part, taken_by};
 use crate::recovering::{is_recovering, is_repairing, none_begun, recovery_after};
 use crate::scoreboard::Scoreboard;
 use crate::sides::{are_selective, neither, sides_after};
 use crate::steps::Now;
 use case_forms::{OutOfMemory, SegmentPlan, Timer};
+use seqno::Word;
 use spec_duties::{BuiltChange, Event, Observation, SynChange, TouchedEndpoint, View};
 use spec_flights::{Recovery, Reports, Sides};
 use std::alloc::Global;
@@ -21,7 +26,8 @@ use streams::Ranges;
 use verdict::Rule;
 
 /// What is kept of an endpoint: what the two SYNs permit, from which loss it recovers, which positions are marked, what
-/// is known of each outstanding one, and whether it made use of a rescue since the recovery began.
+/// is known of each outstanding one, whether it made use of a rescue since the recovery began, and which positions of
+/// its peer's stream it holds beyond what is next in order.
 #[derive(Drop)]
 pub(crate) struct Flight {
     pub(crate) sides: Sides,
@@ -29,6 +35,7 @@ pub(crate) struct Flight {
     pub(crate) marks: Ranges,
     pub(crate) board: Scoreboard,
     pub(crate) rescued: bool,
+    pub(crate) held: Ranges,
 }
 
 /// Whether it holds positions that were sent before, and isn't a FIN without bytes.
@@ -59,6 +66,7 @@ impl Model for Flight {
       marks = items a.marks;
       board = a.board;
       rescued = a.rescued;
+      held = items a.held;
     } };
 }
 
@@ -73,6 +81,7 @@ impl Flight {
             marks: Ranges::new(alloc),
             board: Scoreboard::new(alloc),
             rescued: false,
+            held: Ranges::new(alloc),
         }
     }
 
@@ -120,6 +129,14 @@ impl Flight {
             | Event::Sends(_)
             | Event::Expires(_) => None,
         }
+    }
+
+    /// Whether the endpoint may not send a segment with these bytes, because of its blocks.
+    pub(crate) fn is_untrue(&self, next: u64, irs: Option<Word>, bytes: &[u8]) -> bool
+        requires { next < 2 ^ 63 }
+        ensures { result ≡ is_untrue self.now.sides.peers (from_list self.now.held) next irs (sack_blocks bytes.now) }
+    {
+        is_untrue(self.sides.peers, &self.held, next, irs, bytes)
     }
 
     // Whether a step marks the first segment, if the endpoint has these values after it.
@@ -221,6 +238,7 @@ impl Flight {
         };
         self.board
             .note(now, number_built(seen.built_change), touched, after, &r)?;
+        note_held(&mut self.held, seen.kept, after.rcv_nxt)?;
         self.sides = sides;
         self.recovery = recovery;
         Ok(())

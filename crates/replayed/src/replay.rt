@@ -8,6 +8,7 @@ use crate::case::Case;
 use case_forms::{Extras, GREATEST_POSITION, Line, MOST_STEPS, Step};
 use duties::Duties;
 use endpoint_state::{StepFault, World};
+use flights::Flights;
 use line_fields::{SourceFault, TextFault};
 use spec_step::{Act, Hidden, act_of};
 use std::alloc::{AllocError, AllocFailed, Global};
@@ -74,6 +75,11 @@ impl<'c> Replay<'c> {
     /// What its hosts owe after these steps. Nothing, if the header has no slack.
     pub fn duties(&self) -> &Duties {
         self.watched.duties()
+    }
+
+    /// What is kept of data in flight after these steps. Nothing, in versions 1 to 5.
+    pub fn flights(&self) -> &Flights {
+        self.watched.flights()
     }
 
     /// The case that is replayed.

@@ -9,7 +9,7 @@ use case_forms::{
 };
 use duties::Duties;
 use endpoint_state::{Endpoint, World};
-use flights::Standing;
+use flights::{Flights, Standing};
 use replayed::{Case, Debtor, Held, Refusal, Replay, ReplayFault, line_at, socket_of};
 use spec_tcp::{Arrived, Emission, EndpointId};
 use std::alloc::Global;
@@ -79,6 +79,7 @@ impl<'c> Past<'c> {
             step,
             world: replay.world(),
             duties: replay.duties(),
+            flights: replay.flights(),
             used: &self.used,
             others: self.others.as_ref(),
             restarts: self.restarts,
@@ -107,6 +108,7 @@ pub(crate) struct Scene<'c> {
     pub step: Option<&'c Step>,
     pub world: &'c World,
     pub duties: &'c Duties,
+    pub flights: &'c Flights,
     /// For each line used, the line of the witness that used it.
     pub used: &'c BTreeMap<u64, u64>,
     /// If the step builds a segment, other windows of the endpoint that builds it.
