@@ -133,7 +133,8 @@ impl CellQueue {
         let at = at - self.ready;
         let known = self.marks.len();
         let part = part_kept(known, self.fin, at, bytes);
-        part.len() + end_kept(known, self.fin, at, bytes, fin) as usize
+        let end = end_kept(known, self.fin, at, part, fin);
+        if end { part.len() + 1 } else { part.len() }
     }
 
     /// Removes this many bytes from the front.
