@@ -4,14 +4,15 @@ ghost use Rattle.std.specs.Prelude.{◌≡◌, ◌<◌, ◌^◌, OnOk};
 ghost use Rattle.std.specs.FinSet.{from_list};
 ghost use Rattle.segment.specs.Reading.{sack_blocks};
 ghost use Rattle.spec_flights.specs.Flights.{broken_at, finds_lost, flight_after};
-ghost use Rattle.spec_flights.specs.Flights.{goes_again, marks_oldest, may_begin, number_built, rescued_after, unflown};
-ghost use Rattle.spec_flights.specs.Flights.{uses_rescue};
+ghost use Rattle.spec_flights.specs.Flights.{goes_again, marks_oldest, may_be_probed, may_begin, number_built};
+ghost use Rattle.spec_flights.specs.Flights.{probe_broken, rescued_after, unflown, uses_rescue};
 ghost use Rattle.spec_flights.specs.Held.{is_untrue};
 ghost use Rattle.spec_flights.specs.Marks.{marks_after};
 
 use crate::delivered::{read_reports, remove_reports};
 use crate::held::{is_untrue, note_held};
 use crate::marks::{is_fin_alone, making_length, marked_by, old_part, taken_by};
+use crate::probing::{is_early_probe, is_none, not_probing, probing_after};
 use crate::recovering::{is_recovering, is_repairing, none_begun, recovery_after};
 use crate::scoreboard::Scoreboard;
 use crate::sides::{are_selective, neither, sides_after};
@@ -19,15 +20,15 @@ use crate::steps::Now;
 use case_forms::{OutOfMemory, SegmentPlan, Timer};
 use seqno::Word;
 use spec_duties::{BuiltChange, Event, Observation, SynChange, TouchedEndpoint, View};
-use spec_flights::{Recovery, Reports, Sides};
+use spec_flights::{Probing, Recovery, Reports, Sides};
 use std::alloc::Global;
 use std::marker::Model;
 use streams::Ranges;
 use verdict::Rule;
 
 /// What is kept of an endpoint: what the two SYNs permit, from which loss it recovers, which positions are marked, what
-/// is known of each outstanding one, whether it made use of a rescue since the recovery began, and which positions of
-/// its peer's stream it holds beyond what is next in order.
+/// is known of each outstanding one, whether it made use of a rescue since the recovery began, how far a probe for a
+/// loss is, and which positions of its peer's stream it holds beyond what is next in order.
 #[derive(Drop)]
 pub(crate) struct Flight {
     pub(crate) sides: Sides,
@@ -35,6 +36,7 @@ pub(crate) struct Flight {
     pub(crate) marks: Ranges,
     pub(crate) board: Scoreboard,
     pub(crate) rescued: bool,
+    pub(crate) probing: Probing,
     pub(crate) held: Ranges,
 }
 
@@ -66,6 +68,7 @@ impl Model for Flight {
       marks = items a.marks;
       board = a.board;
       rescued = a.rescued;
+      probing = a.probing;
       held = items a.held;
     } };
 }
@@ -81,6 +84,7 @@ impl Flight {
             marks: Ranges::new(alloc),
             board: Scoreboard::new(alloc),
             rescued: false,
+            probing: not_probing(),
             held: Ranges::new(alloc),
         }
     }
@@ -103,31 +107,57 @@ impl Flight {
         }
     }
 
-    /// The rule that a step breaks. `clock`: the moment, and how far a clock may be wrong. None: it breaks none.
-    pub(crate) fn broken_at(&self, clock: u128, event: &Event, v: &View) -> Option<Rule>
-        ensures { result ≡ broken_at clock event.now v.now self.now }
+    // Whether a probe for a loss may be sent once its time has come.
+    pub(crate) fn may_be_probed(&self, v: &View) -> bool
+        ensures { result ≡ may_be_probed v.now self.now }
+    {
+        are_selective(self.sides)
+            && !is_recovering(v, self.recovery)
+            && is_none(self.probing.probe)
+            && self.probing.quiet.is_some()
+            && !self.board.tells(v.snd_una, v.snd_max)
+    }
+
+    // The rule that a step breaks that makes a probe due. None: it breaks none.
+    fn probe_broken(&self, clock: u128, v: &View) -> Option<Rule>
+        ensures { result ≡ probe_broken clock v.now self.now }
+    {
+        if !self.may_be_probed(v) {
+            return Some(Rule::TimerOff);
+        }
+        if is_early_probe(clock, v, self.probing.quiet) {
+            return Some(Rule::TimerEarly);
+        }
+        None
+    }
+
+    /// The rule that a step breaks. `repeats`: whether it is judged when data goes again. `clock`: the moment, and how
+    /// far a clock may be wrong. None: it breaks none.
+    pub(crate) fn broken_at(
+        &self,
+        repeats: bool,
+        clock: u128,
+        event: &Event,
+        v: &View,
+    ) -> Option<Rule>
+        ensures { result ≡ broken_at repeats clock event.now v.now self.now }
     {
         match event {
-            Event::Builds(plan) => {
-                if goes_again(v, plan) && !self.may_go_again(clock, v, old_part(v, plan)) {
-                    Some(Rule::OldData)
-                } else {
-                    None
-                }
+            Event::Builds(plan)
+                if repeats && goes_again(v, plan) && !self.may_go_again(clock, v, plan) =>
+            {
+                Some(Rule::OldData)
             }
-            Event::Recovers => {
-                if self.may_begin(clock, v) {
-                    None
-                } else {
-                    Some(Rule::Recovery)
-                }
-            }
+            Event::Recovers if repeats && !self.may_begin(clock, v) => Some(Rule::Recovery),
+            Event::Expires(Timer::Pto) => self.probe_broken(clock, v),
             Event::Opens
             | Event::Calls { .. }
             | Event::Processes { .. }
             | Event::Drops { .. }
+            | Event::Builds(_)
             | Event::Sends(_)
-            | Event::Expires(_) => None,
+            | Event::Expires(Timer::Rto | Timer::Persist | Timer::Msl2 | Timer::Giveup)
+            | Event::Recovers => None,
         }
     }
 
@@ -166,11 +196,12 @@ impl Flight {
         }
     }
 
-    // Whether a segment is sent again though nothing is lost, and it isn't marked.
+    // Whether a segment is sent again though nothing is lost, it isn't marked, and it is no probe.
     fn uses_rescue(&self, clock: u128, v: &View, plan: &SegmentPlan) -> bool
         ensures { result ≡ uses_rescue clock v.now plan.now self.now }
     {
-        goes_again(v, plan) && !self.are_free_at(clock, v, old_part(v, plan))
+        goes_again(v, plan)
+            && !(self.are_free_at(clock, v, old_part(v, plan)) || self.is_probe(v, plan))
     }
 
     fn rescued_after(&self, clock: u128, event: &Event, before: &View) -> bool
@@ -241,6 +272,8 @@ impl Flight {
         note_held(&mut self.held, seen.kept, after.rcv_nxt)?;
         self.sides = sides;
         self.recovery = recovery;
+        let before = &touched.before;
+        self.probing = probing_after(moment, &touched.event, before, after, self.probing);
         Ok(())
     }
 }

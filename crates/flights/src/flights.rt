@@ -6,7 +6,8 @@ ghost use Rattle.indexmap.specs.IndexMap.{insert_entry};
 ghost use Rattle.spec_network.specs.Tables.{on, pick};
 ghost use Rattle.spec_flights.specs.Flights as spec;
 ghost use Rattle.spec_flights.specs.Flights.{broken_at, flight_after, flight_at, flights_after, flights_touched};
-ghost use Rattle.spec_flights.specs.Flights.{judges, refusal, sends_untrue, start, unflown};
+ghost use Rattle.spec_flights.specs.Flights.{refusal, sends_untrue, start, unflown};
+ghost use Rattle.spec_duties.specs.Resent.{judges_repeats};
 
 use crate::flight::Flight;
 use crate::held::{Untrue, why_untrue};
@@ -133,14 +134,13 @@ fn clock_at(header: &Header, moment: u64) -> u128
     u128::from(moment) + u128::from(header.grain)
 }
 
-fn judges(header: &Header) -> bool
-    ensures { result ≡ judges header.now }
+fn judges_repeats(level: Judged) -> bool
+    ensures { result ≡ judges_repeats level }
 {
-    header.version.says_sender()
-        && match header.congestion {
-            Judged::Full | Judged::Recovery => true,
-            Judged::NoControl => false,
-        }
+    match level {
+        Judged::Full | Judged::Recovery => true,
+        Judged::NoControl => false,
+    }
 }
 
 impl Flights {
@@ -155,16 +155,16 @@ impl Flights {
     }
 
     // The rule that a step breaks at an endpoint.
-    fn broken_by(&self, clock: u128, touched: &TouchedEndpoint) -> Option<Rule>
-        ensures { result ≡ broken_at clock touched.now.event touched.now.before
+    fn broken_by(&self, repeats: bool, clock: u128, touched: &TouchedEndpoint) -> Option<Rule>
+        ensures { result ≡ broken_at repeats clock touched.now.event touched.now.before
             (flight_at self.now touched.now.host touched.now.place) }
     {
         if let Some(tables) = &self.tables {
             if let Some(flight) = tables.get(touched.host).get(u64::from(touched.place)) {
-                return flight.broken_at(clock, &touched.event, &touched.before);
+                return flight.broken_at(repeats, clock, &touched.event, &touched.before);
             }
         }
-        Flight::new(self.alloc).broken_at(clock, &touched.event, &touched.before)
+        Flight::new(self.alloc).broken_at(repeats, clock, &touched.event, &touched.before)
     }
 
     /// The rule that a step at this moment, in microseconds, breaks beside those of the model. None: it breaks none.
@@ -172,11 +172,14 @@ impl Flights {
     pub fn refusal(&self, header: &Header, moment: u64, seen: &Observation) -> Option<Rule>
         ensures { result ≡ refusal header.now moment self.now seen.now }
     {
-        if !judges(header) {
+        if !header.version.says_sender() {
             return None;
         }
         match &seen.touched {
-            Some(touched) => self.broken_by(clock_at(header, moment), touched),
+            Some(touched) => {
+                let repeats = judges_repeats(header.congestion);
+                self.broken_by(repeats, clock_at(header, moment), touched)
+            }
             None => None,
         }
     }
@@ -214,7 +217,7 @@ impl Flights {
         moment: u64,
         touched: &TouchedEndpoint,
     ) -> Option<Standing> {
-        if !judges(header) {
+        if !header.version.says_sender() {
             return None;
         }
         let Some(tables) = &self.tables else {

@@ -1,16 +1,20 @@
 //! What may be sent again.
 
-ghost use Rattle.std.specs.Prelude.{◌≡◌, ◌≤◌, ◌<◌, true, false, not, ◌&&◌, None, IfSome};
+ghost use Rattle.std.specs.Prelude.{◌≡◌, ◌≤◌, ◌<◌, ◌+◌, true, false, not, nat_eq, ◌&&◌, None, IfSome};
 ghost use Rattle.std.specs.FinSet.{from_list};
 ghost use Rattle.std.specs.List.{list_all};
+ghost use Rattle.spec_tcp.specs.Makes.Payload.{making_length};
 ghost use Rattle.streams.specs.Ranges.{covers, meets, positions};
-ghost use Rattle.spec_flights.specs.Flights.{are_free, free_below, is_free, is_marked, is_rescue, may_go_again};
-ghost use Rattle.spec_flights.specs.Flights.{recovers_selectively, sends_nothing_new};
+ghost use Rattle.spec_flights.specs.Flights.{are_free, free_below, is_free, is_marked, is_probe, is_rescue};
+ghost use Rattle.spec_flights.specs.Flights.{may_go_again, recovers_selectively, sends_nothing_new};
 
 use crate::flight::Flight;
 use crate::late::after;
+use crate::marks::{making_length, old_part};
+use crate::probing::is_due;
 use crate::recovering::{is_recovering, is_repairing};
 use crate::sides::are_selective;
+use case_forms::SegmentPlan;
 use spec_duties::View;
 use spec_flights::Stretch;
 use streams::next_run;
@@ -20,6 +24,13 @@ fn sends_nothing_new(v: &View) -> bool
     ensures { result ≡ sends_nothing_new v.now }
 {
     v.end <= v.snd_max || v.snd_una.saturating_add(u64::from(v.snd_wnd)) <= v.snd_max
+}
+
+// Whether the position after a segment is this one.
+fn ends_at(plan: &SegmentPlan, end: u64) -> bool
+    ensures { result ≡ nat_eq (plan.now.pos + making_length plan.now) end }
+{
+    u128::from(plan.pos) + u128::from(making_length(plan)) == u128::from(end)
 }
 
 impl Flight {
@@ -117,10 +128,21 @@ impl Flight {
         self.are_free(self.free_below(clock, v), old)
     }
 
-    /// Whether they may be sent again.
-    pub(crate) fn may_go_again(&self, clock: u128, v: &View, old: Stretch) -> bool
-        ensures { result ≡ may_go_again clock v.now self.now old }
+    /// Whether a segment that was sent before is the probe that is due.
+    pub(crate) fn is_probe(&self, v: &View, plan: &SegmentPlan) -> bool
+        ensures { result ≡ is_probe v.now plan.now self.now }
     {
-        self.are_free_at(clock, v, old) || self.is_rescue(clock, v, old)
+        let old = old_part(v, plan);
+        is_due(self.probing.probe)
+            && ends_at(plan, v.snd_max)
+            && !self.board.tells(old.from, old.upto)
+    }
+
+    /// Whether a segment may be sent again.
+    pub(crate) fn may_go_again(&self, clock: u128, v: &View, plan: &SegmentPlan) -> bool
+        ensures { result ≡ may_go_again clock v.now plan.now self.now }
+    {
+        let old = old_part(v, plan);
+        self.are_free_at(clock, v, old) || self.is_probe(v, plan) || self.is_rescue(clock, v, old)
     }
 }

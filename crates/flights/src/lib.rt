@@ -7,6 +7,7 @@
 //!
 //! - `sides`: which endpoints acknowledge selectively
 //! - `recovering`: up to which position an endpoint recovers from a loss
+//! - `probing`: when a probe for a loss is due, and until when it is on its way
 //! - `scoreboard`: what is known of outstanding positions; `walk`: what is in flight of
 //!   them; `steps`: what a step changes of it
 //! - `late`: what is lost; `delivered`: what an acknowledgment delivers
@@ -26,6 +27,7 @@ mod held;
 mod late;
 mod laws;
 mod marks;
+mod probing;
 mod recovering;
 mod scoreboard;
 mod sides;

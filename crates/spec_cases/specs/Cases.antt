@@ -99,13 +99,15 @@ abbrev pub with_refusal : Option Rule → List (Rule × Bool) → List (Rule × 
 with_refusal None rules = rules
 with_refusal (Some rule) rules = map (with_broken rule) rules
 
--- the rule that a step breaks by what is kept of data in flight; only to build a segment, or to begin fast
--- recovery, can
+-- the rule that a step breaks by what is kept of data in flight; only to build a segment, to begin fast recovery, or
+-- the line of a timer, can
 abbrev pub refused_at : Header → (moment : ℕ) → Known → Host → HostStep tcp_shape → Option Rule
 refused_at h moment k host (network.Makes m) =
     refusal h moment k.flights (observe h moment k.model (network.At host (network.Makes m)))
 refused_at h moment k host (network.Does x) =
     refusal h moment k.flights (observe h moment k.model (network.At host (network.Does x)))
+refused_at h moment k host (network.Expires line x) =
+    refusal h moment k.flights (observe h moment k.model (network.At host (network.Expires line x)))
 refused_at h moment k host d = None
 
 abbrev pub refused_by : Header → (moment : ℕ) → Known → Step tcp_shape → Option Rule

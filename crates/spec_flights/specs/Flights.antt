@@ -1,6 +1,6 @@
 -- What is kept of data in flight, what it refuses, and what is kept after a step.
 use Rattle.std.specs.Prelude.{ℕ, suc, ◌+◌, nat_eq, nat_le, nat_lt, Bool, true, false, not, ◌&&◌, ◌||◌, if◌then◌else◌}
-use Rattle.std.specs.Prelude.{List, [], Option, None, Some, is_some, length, unwrap_or}
+use Rattle.std.specs.Prelude.{List, [], Option, None, Some, is_some, unwrap_or}
 use Rattle.std.specs.FinSet.{contains, from_list}
 use Rattle.std.specs.List.{list_all}
 use Rattle.std.specs.Map.{lookup}
@@ -146,7 +146,7 @@ may_begin clock v f =
 abbrev pub may_be_probed : View → Flight → Bool
 may_be_probed v f =
     are_selective f.sides && not (is_recovering v f.recovery) && is_none f.probing.probe && is_some f.probing.quiet
-    && nat_eq (length f.board.told) 0
+    && not (meets (from_list f.board.told) v.snd_una v.snd_max)
 
 -- the timer expires that makes a probe due
 abbrev pub probe_broken : (clock : ℕ) → View → Flight → Option Rule

@@ -8,7 +8,7 @@ use Rattle.seqno.specs.Near.{near_position}
 use Rattle.seqno.specs.declared.word.Word.{Word}
 use Rattle.segment.specs.declared.options.SackBlock.{SackBlock}
 use Rattle.streams.specs.Ranges.{covers, span}
-use Rattle.spec_duties.specs.Kept.{Kept}
+use Rattle.spec_duties.specs.declared.observations.Kept.{Kept}
 
 -- what it holds after a step, in order: what the step keeps, too, and nothing below RCV.NXT
 abbrev pub held_after : Kept → (next : ℕ) → (held : List ℕ) → List ℕ

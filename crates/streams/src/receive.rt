@@ -114,7 +114,8 @@ impl ReceiveBuffer {
     pub fn kept_count(&self, position: u64, bytes: &[u8], fin: bool) -> u64
         requires next { next self.now ≤ position }
         requires small { position + length bytes.now + 1 < 2 ^ 63 }
-        ensures { result ≡ length (body_kept self.now.taken position bytes.now fin) }
+        ensures value { result ≡ length (body_kept self.now.taken position bytes.now fin) }
+        ensures small { result ≤ length bytes.now + 1 }
     {
         let at = (position - self.gone) as usize;
         self.cells.kept_count(at, bytes, fin) as u64

@@ -321,11 +321,15 @@ fn judge_line(
             };
             watch_step(world, flights, duties, moment, taken, &seen, flown)
         }
+        TakenLine::Expired { .. } => {
+            let seen = observe_line(world, moment, &taken);
+            let refusal = flights.refusal(world.header(), moment, &seen);
+            watch_step(world, flights, duties, moment, taken, &seen, refusal)
+        }
         TakenLine::CallBegin { .. }
         | TakenLine::CallEnd { .. }
         | TakenLine::Came { .. }
-        | TakenLine::Heard { .. }
-        | TakenLine::Expired { .. } => {
+        | TakenLine::Heard { .. } => {
             let seen = observe_line(world, moment, &taken);
             watch_step(world, flights, duties, moment, taken, &seen, refused(None))
         }
