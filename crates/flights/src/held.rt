@@ -24,9 +24,11 @@ pub enum Untrue {
 pub(crate) fn note_held(held: &mut Ranges, kept: Kept, next: u64) -> Result<(), OutOfMemory>
     ensures { OnOk result (items held.new ≡ held_after kept next (items held.old)) }
 {
-    if next < kept.upto {
-        held.add(kept.from, kept.upto)?;
+    if kept.upto <= next {
+        held.forget_below(next);
+        return Ok(());
     }
+    held.add(kept.from, kept.upto)?;
     held.forget_below(next);
     Ok(())
 }
