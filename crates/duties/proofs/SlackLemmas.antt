@@ -330,6 +330,16 @@ reported_true h slack moment d untrue s none = by s.touched (none_all (duty_rule
     by None all = all.0
     by (Some t) all = all.1.1.1.1.1.1.1.1.1.0
 
+-- whether or not there is a slack
+pub truly_reported : (h : Header) (moment : ℕ) (d : Duties) (untrue : Bool) (s : Observation)
+    → first_broken (judged_rules h moment d untrue s) ≡ None → untrue ≡ false
+truly_reported h moment d untrue s = by h.slack
+  where
+    by : (slack : Option ℕ)
+        → first_broken (on slack ((rules.SackUntrue, untrue) ∷ []) (λ slack. duty_rules h slack moment d untrue s)) ≡ None → untrue ≡ false
+    by None e = (none_all ((rules.SackUntrue, untrue) ∷ []) e).0
+    by (Some slack) e = reported_true h slack moment d untrue s e
+
 step_less : (less more : Option ℕ) → AtMost less more → (h : Header) (moment : ℕ) (d : Duties) (c : Both (List ℕ)) (untrue : Bool) (s : Observation)
     → AreMore d.credits c
     → first_broken (judged_rules (with_slack less h) moment d untrue s) ≡ None
