@@ -44,8 +44,10 @@ use Rattle.spec_flights.specs.Flights.{Flight, Flights, board_after, broken_at, 
 use Rattle.spec_flights.specs.Flights.{marks_oldest, may_be_probed, may_go_again, number_built, refusal, rescued_after}
 use Rattle.spec_flights.specs.Held.{held_after}
 use Rattle.spec_flights.specs.Marks.{marked_by, marked_by_event, marks_after, old_part, taken_by}
-use Rattle.spec_flights.specs.Probing.{Probe, Probing, is_early_probe, probe_before, probing_after}
+use Rattle.spec_flights.specs.Probing.{is_early_probe, probe_before, probing_after}
+use Rattle.spec_flights.specs.declared.probing.Probe.{Probe}
 use Rattle.spec_flights.specs.declared.probing.Probe.TheVariants as probes
+use Rattle.spec_flights.specs.declared.probing.Probing.{Probing}
 use Rattle.spec_flights.specs.Recovering.{is_recovering, recovery_after}
 use Rattle.spec_flights.specs.Scoreboard.{Scoreboard}
 use Rattle.spec_flights.specs.Sides.{sides_after}
