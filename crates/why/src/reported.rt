@@ -1,5 +1,6 @@
 //! What a selective acknowledgment reports, and the endpoint doesn't hold.
 
+use crate::late::describe_touched;
 use crate::scene::Scene;
 use case_forms::{OutOfMemory, Wire};
 use endpoint_state::Endpoint;
@@ -15,6 +16,7 @@ pub(crate) fn untrue(
     made: &Emission,
     wire: &Wire,
 ) -> Result<(), OutOfMemory> {
+    describe_touched(out, scene)?;
     let (id, bytes) = (made.sender, wire.bytes.as_slice());
     let Some(endpoint) = scene.world.body(id.host).endpoint_at(id.number) else {
         return Ok(());
