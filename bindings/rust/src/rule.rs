@@ -109,6 +109,8 @@ pub enum Rule {
     ResentBeyond = 51,
     /// There are more acknowledgments than received segments (RFC 5681, 4.2).
     AckExcess = 52,
+    /// A selective acknowledgment reports what the host doesn't hold, or wasn't permitted (RFC 2018, 2 to 4).
+    SackUntrue = 53,
     /// A round trip isn't measured, though none was since this data was sent (RFC 6298, 3).
     SampleDue = 56,
     /// A call that can be answered is answered late (RFC 9293, 3.9.1).
@@ -117,7 +119,7 @@ pub enum Rule {
 
 impl Rule {
     /// All rules, in the order of their numbers.
-    pub const ALL: [Rule; 54] = [
+    pub const ALL: [Rule; 55] = [
         Rule::LineRange,
         Rule::LineAgain,
         Rule::ThreadOrder,
@@ -170,16 +172,17 @@ impl Rule {
         Rule::Resent,
         Rule::ResentBeyond,
         Rule::AckExcess,
+        Rule::SackUntrue,
         Rule::SampleDue,
         Rule::AnswerLate,
     ];
 
-    /// The rule with this number: 1 to 52, 56 or 57.
+    /// The rule with this number: 1 to 53, 56 or 57.
     pub fn numbered(number: u32) -> Option<Rule> {
         Self::ALL.into_iter().find(|rule| rule.number() == number)
     }
 
-    /// Its number: 1 to 52, 56 or 57.
+    /// Its number: 1 to 53, 56 or 57.
     pub fn number(self) -> u32 {
         self as u32
     }
@@ -239,6 +242,7 @@ impl Rule {
             Rule::Resent => "resent",
             Rule::ResentBeyond => "resent-beyond",
             Rule::AckExcess => "ack-excess",
+            Rule::SackUntrue => "sack-untrue",
             Rule::SampleDue => "sample-due",
             Rule::AnswerLate => "answer-late",
         }

@@ -15,7 +15,7 @@ use verdict::{Rule, Verdict};
 pub struct Answer {
     /// 0: yes; 1: no; 2: the trace can't be read; 3: the witness can't be read; 4: memory ran out.
     pub kind: u32,
-    /// A no: the number of the rule that is broken: 1 to 52, 56 or 57.
+    /// A no: the number of the rule that is broken: 1 to 53, 56 or 57.
     pub rule: u32,
     /// A text that can't be read: the number of the fault, from 1.
     pub fault: u32,

@@ -123,6 +123,7 @@ pub(crate) fn rule_numbered(number: u32) -> Option<Rule>
         50 => Rule::Resent,
         51 => Rule::ResentBeyond,
         52 => Rule::AckExcess,
+        53 => Rule::SackUntrue,
         56 => Rule::SampleDue,
         57 => Rule::AnswerLate,
         _ => return None,

@@ -1,4 +1,5 @@
--- With a greater slack, what explains a trace still explains it; with `any`, duties ask for nothing, and no rule of a duty is named.
+-- With a greater slack, what explains a trace still explains it; with `any`, duties ask for nothing, and no rule of a duty
+-- is named but that what is reported isn't true.
 use Rattle.std.proofs.Common.{◌≡◌, ℕ, ◌≤◌, Bool, true, false, List, [], ◌∷◌, ◌++◌, Option, None, Some, inl, inr, refl, sym, ap, subst, ◌∙◌}
 use Rattle.std.proofs.Common.{◌+◌, ◌⊎◌, take}
 use Rattle.std.specs.Prelude.{nat_le}
@@ -13,6 +14,7 @@ use Rattle.case_forms.specs.declared.trace.Trace.{Trace}
 use Rattle.verdict.specs.Rules.{first_broken}
 use Rattle.verdict.specs.declared.report.Verdict.TheVariants.{Yes, No}
 use Rattle.verdict.specs.declared.rule.Rule.{Rule}
+use Rattle.verdict.specs.declared.rule.Rule.TheVariants as rules
 use Rattle.verdict.specs.declared.rule.Rule.TheVariants.{Unplaced}
 use Rattle.interval_order.specs.OrderRules.{order_rules}
 use Rattle.interval_order.specs.Orders.{Move, last_moment, order_of}
@@ -26,7 +28,7 @@ use Rattle.spec_tcp_laws.specs.Ascending.{rule_number}
 use Rattle.spec_tcp_laws.proofs.Rules.{at_most_to, both_true}
 use Rattle.duties.proofs.SlackLemmas.{dutiful_any, late_any, nothing_judged}
 use Rattle.spec_flights.specs.Flights.{judges}
-use Rattle.spec_cases.specs.Cases.{Dutiful, Known, first_known, known_after_all, late_at_end, model_rules, watch_rules}
+use Rattle.spec_cases.specs.Cases.{Dutiful, Known, first_known, known_after_all, late_at_end, model_rules, untrue_at, watch_rules}
 use Rattle.spec_duties.specs.Observations.{observe}
 use Rattle.spec_cases.specs.Slack.{AtMost, with_slack}
 use Rattle.watched.proofs.AscendLemmas.{tops}
@@ -100,26 +102,35 @@ explained_by_model t w any unjudged placed take_turns run = record {
   in_time = late_any t.header (last_moment (moves w.steps)) (known_after_all t.header (first_known t.header) (stamped t.header t.lines w.steps)) any;
 }
 
-tops_both : (xs ys : List (Rule × Bool)) → tops xs ≡ true → tops ys ≡ true → tops (xs ++ ys) ≡ true
-tops_both [] ys a b = b
-tops_both ((r, broken) ∷ xs) ys a b = let parts = both_true (nat_le (rule_number r) 39) (tops xs) a in rw (parts.0, tops_both xs ys parts.1 b) refl
+-- what a no may name: a rule of order or of the model, or that what is reported isn't true
+abbrev MayName : Rule → Type 0
+MayName rule = (rule_number rule ≤ 39) ⊎ (rule ≡ rules.SackUntrue)
 
-broken_top : (xs : List (Rule × Bool)) (rule : Rule) → tops xs ≡ true → first_broken xs ≡ Some rule → rule_number rule ≤ 39
-broken_top [] rule top is = absurd (none-some rule is)
-broken_top ((r, true) ∷ xs) rule top is =
-    subst (λ (x : Rule). rule_number x ≤ 39) (same_Some r rule is) (at_most_to (rule_number r) 39 (both_true (nat_le (rule_number r) 39) (tops xs) top).0)
-broken_top ((r, false) ∷ xs) rule top is = broken_top xs rule (both_true (nat_le (rule_number r) 39) (tops xs) top).1 is
+first_named : (xs ys : List (Rule × Bool)) (rule : Rule) → tops xs ≡ true → (first_broken ys ≡ Some rule → MayName rule)
+    → first_broken (xs ++ ys) ≡ Some rule → MayName rule
+first_named [] ys rule top rest is = rest is
+first_named ((r, true) ∷ xs) ys rule top rest is =
+    inl (subst (λ (x : Rule). rule_number x ≤ 39) (same_Some r rule is) (at_most_to (rule_number r) 39 (both_true (nat_le (rule_number r) 39) (tops xs) top).0))
+first_named ((r, false) ∷ xs) ys rule top rest is = first_named xs ys rule (both_true (nat_le (rule_number r) 39) (tops xs) top).1 rest is
 
-case_top : (h : Header) (k : Known) (o : Option (Stamped tcp_shape)) → h.slack ≡ None → tops (option_map_or (act_rules h k) o []) ≡ true
-case_top h k None any = refl
-case_top h k (Some x) any =
-    let none = nothing_judged h x.moment k.duties (observe h x.moment k.model x.step) any in
-    tops_both (model_rules h x.moment k x.step) (watch_rules h x.moment k x.step) (model_top h x.moment k x.step) (ap tops none)
+untrue_named : (untrue : Bool) (rule : Rule) → first_broken ((rules.SackUntrue, untrue) ∷ []) ≡ Some rule → MayName rule
+untrue_named true rule is = inr (sym (same_Some rules.SackUntrue rule is))
+untrue_named false rule is = absurd (none-some rule is)
 
-all_top : (h : Header) (lines : List Line) (earlier : List Step) (k : Known) (s : Step) → h.slack ≡ None → tops (all_rules h lines earlier k s) ≡ true
-all_top h lines earlier k s any =
-    tops_both (order_rules (order_of h lines (moves earlier)) (move_of s)) (option_map_or (act_rules h k) (act_of h lines s) []) refl
-    (case_top h k (act_of h lines s) any)
+case_named : (h : Header) (k : Known) (o : Option (Stamped tcp_shape)) (rule : Rule) → h.slack ≡ None
+    → first_broken (option_map_or (act_rules h k) o []) ≡ Some rule → MayName rule
+case_named h k None rule any is = absurd (none-some rule is)
+case_named h k (Some x) rule any is =
+    let untrue = untrue_at h k x.step in
+    let none = nothing_judged h x.moment k.duties untrue (observe h x.moment k.model x.step) any in
+    first_named (model_rules h x.moment k x.step) (watch_rules h x.moment k x.step) rule (model_top h x.moment k x.step)
+    (λ broken. untrue_named untrue rule (sym (ap first_broken none) ∙ broken)) is
+
+all_named : (h : Header) (lines : List Line) (earlier : List Step) (k : Known) (s : Step) (rule : Rule) → h.slack ≡ None
+    → first_broken (all_rules h lines earlier k s) ≡ Some rule → MayName rule
+all_named h lines earlier k s rule any is =
+    first_named (order_rules (order_of h lines (moves earlier)) (move_of s)) (option_map_or (act_rules h k) (act_of h lines s) []) rule refl
+    (case_named h k (act_of h lines s) rule any) is
 
 pub any_names_no_duty : AnyNamesNoDuty
 any_names_no_duty t w witness_line trace_line rule any is = by (verdict_says t w (No witness_line trace_line rule) is)
@@ -133,9 +144,8 @@ any_names_no_duty t w witness_line trace_line rule any is = by (verdict_says t w
     by : ((witness_line ≡ 0) × (rule ≡ Unplaced) × LeavesLine t w trace_line)
         ⊎ ((witness_line ≡ 0) × OwesAtEnd t w trace_line rule)
         ⊎ ((place : ℕ) × (witness_line ≡ place + 2) × BreaksFirst t w place trace_line rule)
-        → rule_number rule ≤ 39
-    by (inl left) = rw left.1 (at_most_to 39 39 refl)
+        → MayName rule
+    by (inl left) = inl (rw left.1 (at_most_to 39 39 refl))
     by (inr (inl owes)) = absurd (none-some (trace_line, rule) (sym (late_any t.header (last_moment (moves w.steps)) ended any) ∙ owes.1.late))
     by (inr (inr breaks)) =
-        broken_top (rules_at t w breaks.0 breaks.2.step) rule
-        (all_top t.header t.lines (take breaks.0 w.steps) (before breaks.0) breaks.2.step any) breaks.2.breaks
+        all_named t.header t.lines (take breaks.0 w.steps) (before breaks.0) breaks.2.step rule any breaks.2.breaks

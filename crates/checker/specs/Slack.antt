@@ -1,8 +1,9 @@
--- With a greater slack, a yes stays a yes; with `any`, no duty is judged.
-use Rattle.std.specs.Prelude.{◌≡◌, ◌≤◌, ℕ, Option, None}
+-- With a greater slack, a yes stays a yes; with `any`, no duty is judged but that what is reported is true.
+use Rattle.std.specs.Prelude.{◌≡◌, ◌≤◌, ◌⊎◌, ℕ, Option, None}
 use Rattle.case_forms.specs.declared.steps.Witness.{Witness}
 use Rattle.case_forms.specs.declared.trace.Trace.{Trace}
 use Rattle.verdict.specs.declared.rule.Rule.{Rule}
+use Rattle.verdict.specs.declared.rule.Rule.TheVariants as rules
 use Rattle.verdict.specs.declared.report.Verdict.TheVariants.{Yes, No}
 use Rattle.spec_tcp_laws.specs.Ascending.{rule_number}
 use Rattle.spec_cases.specs.Slack.{AtMost, with_slack}
@@ -21,7 +22,8 @@ pub record LessLateStaysYes (slack : Option ℕ) : Type 0 where
   pub yes : (t : Trace) (w : Witness) (lines hidden : ℕ) → AtMost t.header.slack slack
       → verdict t w ≡ Yes lines hidden → verdict (trace_with slack t) w ≡ Yes lines hidden
 
--- with `any`, a no names a rule of order or of the model, whose numbers are at most 39
+-- with `any`, a no names a rule of order or of the model, whose numbers are at most 39, or that a selective
+-- acknowledgment isn't true
 abbrev pub AnyNamesNoDuty : Type 0
 AnyNamesNoDuty = (t : Trace) (w : Witness) (witness_line trace_line : ℕ) (rule : Rule) → t.header.slack ≡ None
-    → verdict t w ≡ No witness_line trace_line rule → rule_number rule ≤ 39
+    → verdict t w ≡ No witness_line trace_line rule → (rule_number rule ≤ 39) ⊎ (rule ≡ rules.SackUntrue)

@@ -12,6 +12,7 @@ use Rattle.verdict.proofs.RuleLemmas.{none_all}
 use Rattle.std.specs.List.{AllByRecursion}
 use Rattle.duties.proofs.CreditRuns.{left_earned, left_exchanged, left_some, left_wider, order_earned, order_spent, some_left}
 use Rattle.verdict.specs.declared.rule.Rule.{Rule}
+use Rattle.verdict.specs.declared.rule.Rule.TheVariants as rules
 use Rattle.spec_network.specs.Hosts as network
 use Rattle.spec_network.specs.Hosts.{HostStep, Stamped, Step, World}
 use Rattle.spec_network.specs.Tables.{Both, on, pick, waiting, with_host}
@@ -22,7 +23,7 @@ use Rattle.spec_duties.specs.Answering.{Waits, answer_due, answer_since, answere
 use Rattle.spec_duties.specs.declared.answering.CallChange.{CallChange}
 use Rattle.spec_duties.specs.declared.answering.OpenCall.{OpenCall}
 use Rattle.spec_flights.specs.Flights.{judges}
-use Rattle.spec_cases.specs.Cases.{Known, Dutiful, judged_rules, known_after, late_at_end, noted_by, refused_at, refused_by}
+use Rattle.spec_cases.specs.Cases.{Known, Dutiful, judged_rules, known_after, late_at_end, noted_by, refused_at, refused_by, untrue_at, untrue_by}
 use Rattle.spec_duties.specs.Credits.{credit_of, earliest_credit, has_credit, spent}
 use Rattle.spec_duties.specs.Deadlines.{is_late}
 use Rattle.spec_duties.specs.Excess.{is_excess}
@@ -56,8 +57,10 @@ use Rattle.spec_duties.specs.declared.views.View.{View}
 
 -- ---- without a slack
 
-pub nothing_judged : (h : Header) (moment : ℕ) (d : Duties) (s : Observation) → h.slack ≡ None → judged_rules h moment d s ≡ []
-nothing_judged h moment d s any = ap (λ o. on o [] (λ slack. duty_rules h slack moment d s)) any
+pub nothing_judged : (h : Header) (moment : ℕ) (d : Duties) (untrue : Bool) (s : Observation) → h.slack ≡ None
+    → judged_rules h moment d untrue s ≡ (rules.SackUntrue, untrue) ∷ []
+nothing_judged h moment d untrue s any =
+    ap (λ o. on o ((rules.SackUntrue, untrue) ∷ []) (λ slack. duty_rules h slack moment d untrue s)) any
 
 -- nor does what is kept of data in flight refuse anything where it isn't judged: in versions 1 to 5
 pub not_judging : (h : Header) → says_sender h.version ≡ false → judges h ≡ false
@@ -80,11 +83,20 @@ refused_unjudged h moment k (network.At host d) none = at d
     at (network.Drops line) = refl
     at (network.Answers line) = refl
 
+-- nor is it asked there whether what is reported is true
+pub unasked : (h : Header) (k : Known) (step : Step tcp_shape) → says_sender h.version ≡ false → untrue_at h k step ≡ false
+unasked h k (network.Begin line t call) old = refl
+unasked h k (network.Finish line t answer) old = refl
+unasked h k (network.Effect t answer) old = refl
+unasked h k (network.At host d) old = ap (λ (b : Bool). b && untrue_by k host d) old
+
 pub dutiful_any : (h : Header) (k : Known) (xs : List (Stamped tcp_shape)) → h.slack ≡ None → judges h ≡ false → Dutiful h k xs
 dutiful_any h k [] any unjudged = tt
 dutiful_any h k (x ∷ xs) any unjudged = (
   record {
-    duties = ap first_broken (nothing_judged h x.moment k.duties (observe h x.moment k.model x.step) any);
+    duties =
+        ap first_broken (nothing_judged h x.moment k.duties (untrue_at h k x.step) (observe h x.moment k.model x.step) any)
+        ∙ ap (λ (b : Bool). first_broken ((rules.SackUntrue, b) ∷ [])) (unasked h k x.step unjudged);
     flights = refused_unjudged h x.moment k x.step unjudged;
   },
   dutiful_any h (known_after h x.moment k x.step) xs any unjudged,
@@ -289,30 +301,56 @@ excess_less h slack more d c sent t le left = by (says_sender h.version) sent
     by true None e = refl
     by true (Some u) e = lacks_less slack more d c t.host t.place u le left e
 
-touched_less : (h : Header) (slack more moment : ℕ) (d : Duties) (c : Both (List ℕ)) (counts : Bool) (sent : Option Unsent) (s : Sampling)
+touched_less : (h : Header) (slack more moment : ℕ) (d : Duties) (c : Both (List ℕ)) (counts untrue : Bool) (sent : Option Unsent) (s : Sampling)
     (o : Option TouchedEndpoint) (change : CallChange)
     → slack ≤ more
     → AreMore d.credits c
-    → AreFewer (on o (answer_rules slack moment d change) (touched_rules (with_slack (Some slack) h) slack moment d counts sent s))
-    (on o (answer_rules more moment (with_credits c d) change) (touched_rules (with_slack (Some more) h) more moment (with_credits c d) counts sent s))
-touched_less h slack more moment d c counts sent s None change le left =
-    (late_less slack more moment (answer_due (answer_since d.waits change)) le, tt)
-touched_less h slack more moment d c counts sent s (Some t) change le left =
+    → AreFewer (on o (answer_rules slack moment d untrue change) (touched_rules (with_slack (Some slack) h) slack moment d counts untrue sent s))
+    (on o (answer_rules more moment (with_credits c d) untrue change)
+    (touched_rules (with_slack (Some more) h) more moment (with_credits c d) counts untrue sent s))
+touched_less h slack more moment d c counts untrue sent s None change le left =
+    (λ e. e, (late_less slack more moment (answer_due (answer_since d.waits change)) le, tt))
+touched_less h slack more moment d c counts untrue sent s (Some t) change le left =
     let l = judged_less h slack more moment d (brought_by sent) t.host t.place t.before le in
     let excess =
     or_less (is_excess counts (owed_by d t.host t.place).answers) (sends_in_excess (with_slack (Some slack) h) slack d sent t)
     (is_excess counts (owed_by d t.host t.place).answers) (sends_in_excess (with_slack (Some more) h) more (with_credits c d) sent t)
     (λ e. e) (excess_less h slack more d c sent t le left) in
-    (l.acknowledge, (l.expire, (l.retransmit, (l.probe, (l.start, (l.reset, (λ e. e, (λ e. e, (excess, (λ e. e, tt))))))))))
+    (l.acknowledge, (l.expire, (l.retransmit, (l.probe, (l.start, (l.reset, (λ e. e, (λ e. e, (excess, (λ e. e, (λ e. e, tt)))))))))))
 
-step_less : (less more : Option ℕ) → AtMost less more → (h : Header) (moment : ℕ) (d : Duties) (c : Both (List ℕ)) (s : Observation)
+-- what is reported is true at a step that isn't refused
+reported_true : (h : Header) (slack moment : ℕ) (d : Duties) (untrue : Bool) (s : Observation)
+    → first_broken (duty_rules h slack moment d untrue s) ≡ None → untrue ≡ false
+reported_true h slack moment d untrue s none = by s.touched (none_all (duty_rules h slack moment d untrue s) none).1.1.1.1
+  where
+    by : (o : Option TouchedEndpoint)
+        → AllByRecursion (λ r. r.1 ≡ false) (on o (answer_rules slack moment d untrue s.call_change)
+        (touched_rules h slack moment d (counts_now (built_by d s.built_change)) untrue (sent_by d s.built_change) s.sampling))
+        → untrue ≡ false
+    by None all = all.0
+    by (Some t) all = all.1.1.1.1.1.1.1.1.1.0
+
+-- whether or not there is a slack
+pub truly_reported : (h : Header) (moment : ℕ) (d : Duties) (untrue : Bool) (s : Observation)
+    → first_broken (judged_rules h moment d untrue s) ≡ None → untrue ≡ false
+truly_reported h moment d untrue s = by h.slack
+  where
+    by : (slack : Option ℕ)
+        → first_broken (on slack ((rules.SackUntrue, untrue) ∷ []) (λ slack. duty_rules h slack moment d untrue s)) ≡ None → untrue ≡ false
+    by None e = (none_all ((rules.SackUntrue, untrue) ∷ []) e).0
+    by (Some slack) e = reported_true h slack moment d untrue s e
+
+step_less : (less more : Option ℕ) → AtMost less more → (h : Header) (moment : ℕ) (d : Duties) (c : Both (List ℕ)) (untrue : Bool) (s : Observation)
     → AreMore d.credits c
-    → first_broken (judged_rules (with_slack less h) moment d s) ≡ None
-    → first_broken (judged_rules (with_slack more h) moment (with_credits c d) s) ≡ None
-step_less less None at h moment d c s left e = refl
-step_less None (Some more) at h moment d c s left e = absurd at
-step_less (Some slack) (Some more) at h moment d c s left e =
-    fewer_none (duty_rules (with_slack (Some slack) h) slack moment d s) (duty_rules (with_slack (Some more) h) more moment (with_credits c d) s) (
+    → first_broken (judged_rules (with_slack less h) moment d untrue s) ≡ None
+    → first_broken (judged_rules (with_slack more h) moment (with_credits c d) untrue s) ≡ None
+step_less None None at h moment d c untrue s left e = e
+step_less (Some slack) None at h moment d c untrue s left e =
+    ap (λ (b : Bool). first_broken ((rules.SackUntrue, b) ∷ [])) (reported_true (with_slack (Some slack) h) slack moment d untrue s e)
+step_less None (Some more) at h moment d c untrue s left e = absurd at
+step_less (Some slack) (Some more) at h moment d c untrue s left e =
+    fewer_none (duty_rules (with_slack (Some slack) h) slack moment d untrue s)
+    (duty_rules (with_slack (Some more) h) more moment (with_credits c d) untrue s) (
       λ e. e,
       (
         λ e. e,
@@ -321,7 +359,7 @@ step_less (Some slack) (Some more) at h moment d c s left e =
           (
             sent_less slack more moment (built_by d s.built_change) at,
             touched_less h slack more moment d c
-                (counts_now (built_by d s.built_change)) (sent_by d s.built_change) s.sampling s.touched s.call_change at left,
+                (counts_now (built_by d s.built_change)) untrue (sent_by d s.built_change) s.sampling s.touched s.call_change at left,
           ),
         ),
       ),
@@ -438,9 +476,9 @@ end_less (Some slack) (Some more) at h moment k e =
 pub less_late : (less more : Option ℕ) → AtMost less more → LessLateIsMoreAccepted less more
 less_late less more at = record {
   steps =
-      λ h moment few many s has e.
-      ap (λ (d : Duties). first_broken (judged_rules (with_slack more h) moment d s)) has.same
-      ∙ step_less less more at h moment few many.credits s has.left e;
+      λ h moment few many untrue s has e.
+      ap (λ (d : Duties). first_broken (judged_rules (with_slack more h) moment d untrue s)) has.same
+      ∙ step_less less more at h moment few many.credits untrue s has.left e;
   end =
       λ h moment w fs few many has e.
       ap (λ (d : Duties). late_at_end (with_slack more h) moment (record { model = w; flights = fs; duties = d })) has.same
@@ -450,13 +488,13 @@ less_late less more at = record {
 -- ---- what is kept
 
 -- no acknowledgment lacked a credit
-none_lacks : (h : Header) (slack moment : ℕ) (d : Duties) (s : Observation) (t : TouchedEndpoint) → s.touched ≡ Some t
-    → first_broken (duty_rules h slack moment d s) ≡ None → sends_in_excess h slack d (sent_by d s.built_change) t ≡ false
-none_lacks h slack moment d s t shows none =
-    let rules = (none_all (duty_rules h slack moment d s) none).1.1.1.1 in
+none_lacks : (h : Header) (slack moment : ℕ) (d : Duties) (untrue : Bool) (s : Observation) (t : TouchedEndpoint) → s.touched ≡ Some t
+    → first_broken (duty_rules h slack moment d untrue s) ≡ None → sends_in_excess h slack d (sent_by d s.built_change) t ≡ false
+none_lacks h slack moment d untrue s t shows none =
+    let rules = (none_all (duty_rules h slack moment d untrue s) none).1.1.1.1 in
     let here =
-    subst (λ (o : Option TouchedEndpoint). AllByRecursion (λ r. r.1 ≡ false) (on o (answer_rules slack moment d s.call_change)
-    (touched_rules h slack moment d (counts_now (built_by d s.built_change)) (sent_by d s.built_change) s.sampling))) shows rules in
+    subst (λ (o : Option TouchedEndpoint). AllByRecursion (λ r. r.1 ≡ false) (on o (answer_rules slack moment d untrue s.call_change)
+    (touched_rules h slack moment d (counts_now (built_by d s.built_change)) untrue (sent_by d s.built_change) s.sampling))) shows rules in
     second (is_excess (counts_now (built_by d s.built_change)) (owed_by d t.host t.place).answers) _ here.1.1.1.1.1.1.1.1.0
   where
     second : (a b : Bool) → a || b ≡ false → b ≡ false
@@ -542,15 +580,15 @@ module _ (h : Header) (less more moment : ℕ) (s : Observation) (d : Duties) (c
       written_order c t.host _ order
       (earned_order s.earns moment t.place _ (spent_order more t.place (sent_by d s.built_change) (pick c t.host) (order t.host)))
 
-  hardly_noted : (w : World tcp_shape) → first_broken (judged_rules (with_slack (Some less) h) moment d s) ≡ None
+  hardly_noted : (w : World tcp_shape) (untrue : Bool) → first_broken (judged_rules (with_slack (Some less) h) moment d untrue s) ≡ None
       → HasMoreCredits (noted_by (with_slack (Some less) h) moment w s d) (noted_by (with_slack (Some more) h) moment w s (with_credits c d))
-  hardly_noted w none = record {
+  hardly_noted w untrue none = record {
     same = refl;
-    left = after_more (says_sender h.version) s.touched (λ t shows. none_lacks (with_slack (Some less) h) less moment d s t shows none);
+    left = after_more (says_sender h.version) s.touched (λ t shows. none_lacks (with_slack (Some less) h) less moment d untrue s t shows none);
     order = after_order (says_sender h.version) s.touched;
   }
 
 pub slack_is_hardly_noted : SlackIsHardlyNoted
-slack_is_hardly_noted h less more moment w s few many le has none =
+slack_is_hardly_noted h less more moment w untrue s few many le has none =
     subst (λ (d : Duties). HasMoreCredits (noted_by (with_slack (Some less) h) moment w s few) (noted_by (with_slack (Some more) h) moment w s d))
-    (sym has.same) (hardly_noted h less more moment s few many.credits le has.left has.order w none)
+    (sym has.same) (hardly_noted h less more moment s few many.credits le has.left has.order w untrue none)

@@ -206,11 +206,11 @@ impl Duties {
         header: &Header,
         slack: u64,
         moment: u64,
-        counts: bool,
+        sends: Sends,
         seen: &Observation,
         touched: &TouchedEndpoint,
     ) -> Result<(), Rule>
-        ensures { result_err result ≡ first_broken (touched_rules header.now slack moment self.now counts
+        ensures { result_err result ≡ first_broken (touched_rules header.now slack moment self.now sends.counts sends.untrue
             (sent_by self.now seen.now.built_change) seen.now.sampling touched.now) }
     {
         let id = EndpointId {
@@ -221,7 +221,7 @@ impl Duties {
         let brought = brought_by(&sent);
         let lates = self.judged_lates(header, slack, moment, brought, id, &touched.before);
         let limited = Limited {
-            counts,
+            sends,
             lacks: self.sends_in_excess(header, slack, &sent, touched),
             due: self.is_sample_due(seen.sampling, touched),
         };
@@ -236,19 +236,19 @@ impl Duties {
         header: &Header,
         slack: u64,
         moment: u64,
-        counts: bool,
+        sends: Sends,
         seen: &Observation,
         touched: &TouchedEndpoint,
     ) -> Result<(), Rule>
-        ensures { result_err result ≡ first_broken (touched_rules header.now slack moment self.now counts
+        ensures { result_err result ≡ first_broken (touched_rules header.now slack moment self.now sends.counts sends.untrue
             (sent_by self.now seen.now.built_change) seen.now.sampling touched.now) }
     {
         if header.version.says_sender() {
-            return self.admits_strictly(header, slack, moment, counts, seen, touched);
+            return self.admits_strictly(header, slack, moment, sends, seen, touched);
         }
         let due = self.is_sample_due(seen.sampling, touched);
         let limited = Limited {
-            counts,
+            sends,
             lacks: false,
             due,
         };
@@ -263,16 +263,18 @@ impl Duties {
         }
     }
 
-    /// Whether no duty refuses a step, with this slack in microseconds. The error is the first broken rule.
+    /// Whether no duty refuses a step, with this slack in microseconds. `untrue`: it sends a selective acknowledgment
+    /// that isn't true. The error is the first broken rule.
     #[inline(always)]
     pub fn admits(
         &self,
         header: &Header,
         slack: u64,
         moment: u64,
+        untrue: bool,
         seen: &Observation,
     ) -> Result<(), Rule>
-        ensures { result_err result ≡ first_broken (duty_rules header.now slack moment self.now seen.now) }
+        ensures { result_err result ≡ first_broken (duty_rules header.now slack moment self.now untrue seen.now) }
     {
         if self.drops_needed(&seen.dropping) {
             return Err(Rule::Dropped);
@@ -289,9 +291,11 @@ impl Duties {
         }
         match &seen.touched {
             Some(touched) => {
-                self.admits_touched(header, slack, moment, counts_now(built), seen, touched)
+                let counts = counts_now(built);
+                let sends = Sends { counts, untrue };
+                self.admits_touched(header, slack, moment, sends, seen, touched)
             }
-            None => self.admits_answer(slack, moment, seen.call_change),
+            None => self.admits_answer(slack, moment, untrue, seen.call_change),
         }
     }
 }
@@ -329,11 +333,18 @@ fn counts_now(built: Option<Built>) -> bool
     }
 }
 
-// What a step does too much of, or not at all: it sends a mere acknowledgment; it sends one without a credit; it makes
-// no measurement that is due.
+// What a step sends: a mere acknowledgment; a selective one that isn't true.
+#[derive(Clone, Copy)]
+struct Sends {
+    counts: bool,
+    untrue: bool,
+}
+
+// What a step does too much of, or not at all: what it sends; it sends an acknowledgment without a credit; it makes no
+// measurement that is due.
 #[derive(Clone, Copy)]
 struct Limited {
-    counts: bool,
+    sends: Sends,
     lacks: bool,
     due: bool,
 }
@@ -346,7 +357,8 @@ fn admits_limits(
     owed: &Owed,
 ) -> Result<(), Rule>
     ensures { result_err result ≡ first_broken
-        (limit_rules header.now touched.now limited.counts limited.lacks limited.due owed.now) }
+        (limit_rules header.now touched.now limited.sends.counts limited.lacks limited.sends.untrue limited.due
+        owed.now) }
 {
     let judges = !header.version.says_sender();
     let (event, before) = (&touched.event, &touched.before);
@@ -356,8 +368,11 @@ fn admits_limits(
     if judges && is_resent_beyond(header.congestion, event, before) {
         return Err(Rule::ResentBeyond);
     }
-    if is_excess(limited.counts, owed.answers) || limited.lacks {
+    if is_excess(limited.sends.counts, owed.answers) || limited.lacks {
         return Err(Rule::AckExcess);
+    }
+    if limited.sends.untrue {
+        return Err(Rule::SackUntrue);
     }
     if limited.due {
         return Err(Rule::SampleDue);
@@ -376,7 +391,8 @@ fn admits_both(
 ) -> Result<(), Rule>
     ensures { result_err result
         ≡ first_broken (late_rules lates
-        ++ limit_rules header.now touched.now limited.counts limited.lacks limited.due owed.now) }
+        ++ limit_rules header.now touched.now limited.sends.counts limited.lacks limited.sends.untrue limited.due
+        owed.now) }
 {
     match admits_lates(lates) {
         Ok(()) => admits_limits(header, touched, limited, owed),
@@ -397,7 +413,8 @@ fn admits_endpoint(
 ) -> Result<(), Rule>
     ensures { result_err result ≡ first_broken
         (late_rules (lates_of slack moment touched.now.before listener_closed owed.now)
-        ++ limit_rules header.now touched.now limited.counts limited.lacks limited.due owed.now) }
+        ++ limit_rules header.now touched.now limited.sends.counts limited.lacks limited.sends.untrue limited.due
+        owed.now) }
 {
     match admits_owed(slack, moment, &touched.before, listener_closed, owed) {
         Ok(()) => admits_limits(header, touched, limited, owed),

@@ -27,6 +27,7 @@ mod wire;
 pub use arrives::listen::{admits_listening, child};
 pub use arrives::other_states::ack::may_sample;
 pub use arrives::other_states::admits_connected;
+pub use arrives::other_states::text::{kept_end, kept_start};
 pub use arrives::syn_sent::{admits_syn_sent, completes_handshake};
 pub use arrives::take_segment;
 pub use calls::accept::{accept, listener_allows, open_shut_allows};

@@ -1,4 +1,5 @@
 pub mod SetLemmas
+pub mod HeldLemmas
 pub mod FreeLemmas
 pub mod TableLemmas
 pub mod WalkLemmas

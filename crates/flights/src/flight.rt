@@ -1,12 +1,16 @@
 //! What is kept of an endpoint.
 
-ghost use Rattle.std.specs.Prelude.{◌≡◌, OnOk};
+ghost use Rattle.std.specs.Prelude.{◌≡◌, ◌<◌, ◌^◌, OnOk};
+ghost use Rattle.std.specs.FinSet.{from_list};
+ghost use Rattle.segment.specs.Reading.{sack_blocks};
 ghost use Rattle.spec_flights.specs.Flights.{broken_at, finds_lost, flight_after};
 ghost use Rattle.spec_flights.specs.Flights.{goes_again, marks_oldest, may_be_probed, may_begin, number_built};
 ghost use Rattle.spec_flights.specs.Flights.{probe_broken, rescued_after, unflown, uses_rescue};
+ghost use Rattle.spec_flights.specs.Held.{is_untrue};
 ghost use Rattle.spec_flights.specs.Marks.{marks_after};
 
 use crate::delivered::{read_reports, remove_reports};
+use crate::held::{is_untrue, note_held};
 use crate::marks::{is_fin_alone, making_length, marked_by, old_part, taken_by};
 use crate::probing::{is_early_probe, is_none, not_probing, probing_after};
 use crate::recovering::{is_recovering, is_repairing, none_begun, recovery_after};
@@ -14,6 +18,7 @@ use crate::scoreboard::Scoreboard;
 use crate::sides::{are_selective, neither, sides_after};
 use crate::steps::Now;
 use case_forms::{OutOfMemory, SegmentPlan, Timer};
+use seqno::Word;
 use spec_duties::{BuiltChange, Event, Observation, SynChange, TouchedEndpoint, View};
 use spec_flights::{Probing, Recovery, Reports, Sides};
 use std::alloc::Global;
@@ -22,8 +27,8 @@ use streams::Ranges;
 use verdict::Rule;
 
 /// What is kept of an endpoint: what the two SYNs permit, from which loss it recovers, which positions are marked, what
-/// is known of each outstanding one, whether it made use of a rescue since the recovery began, and how far a probe for
-/// a loss is.
+/// is known of each outstanding one, whether it made use of a rescue since the recovery began, how far a probe for a
+/// loss is, and which positions of its peer's stream it holds beyond what is next in order.
 #[derive(Drop)]
 pub(crate) struct Flight {
     pub(crate) sides: Sides,
@@ -32,6 +37,7 @@ pub(crate) struct Flight {
     pub(crate) board: Scoreboard,
     pub(crate) rescued: bool,
     pub(crate) probing: Probing,
+    pub(crate) held: Ranges,
 }
 
 /// Whether it holds positions that were sent before, and isn't a FIN without bytes.
@@ -63,6 +69,7 @@ impl Model for Flight {
       board = a.board;
       rescued = a.rescued;
       probing = a.probing;
+      held = items a.held;
     } };
 }
 
@@ -78,6 +85,7 @@ impl Flight {
             board: Scoreboard::new(alloc),
             rescued: false,
             probing: not_probing(),
+            held: Ranges::new(alloc),
         }
     }
 
@@ -151,6 +159,14 @@ impl Flight {
             | Event::Expires(Timer::Rto | Timer::Persist | Timer::Msl2 | Timer::Giveup)
             | Event::Recovers => None,
         }
+    }
+
+    /// Whether the endpoint may not send a segment with these bytes, because of its blocks.
+    pub(crate) fn is_untrue(&self, next: u64, irs: Option<Word>, bytes: &[u8]) -> bool
+        requires { next < 2 ^ 63 }
+        ensures { result ≡ is_untrue self.now.sides.peers (from_list self.now.held) next irs (sack_blocks bytes.now) }
+    {
+        is_untrue(self.sides.peers, &self.held, next, irs, bytes)
     }
 
     // Whether a step marks the first segment, if the endpoint has these values after it.
@@ -253,6 +269,7 @@ impl Flight {
         };
         self.board
             .note(now, number_built(seen.built_change), touched, after, &r)?;
+        note_held(&mut self.held, seen.kept, after.rcv_nxt)?;
         self.sides = sides;
         self.recovery = recovery;
         let before = &touched.before;

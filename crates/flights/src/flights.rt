@@ -6,14 +6,16 @@ ghost use Rattle.indexmap.specs.IndexMap.{insert_entry};
 ghost use Rattle.spec_network.specs.Tables.{on, pick};
 ghost use Rattle.spec_flights.specs.Flights as spec;
 ghost use Rattle.spec_flights.specs.Flights.{broken_at, flight_after, flight_at, flights_after, flights_touched};
-ghost use Rattle.spec_flights.specs.Flights.{refusal, start, unflown};
+ghost use Rattle.spec_flights.specs.Flights.{refusal, sends_untrue, start, unflown};
 ghost use Rattle.spec_duties.specs.Resent.{judges_repeats};
 
 use crate::flight::Flight;
+use crate::held::{Untrue, why_untrue};
 use crate::probe_standing::ProbeStanding;
 use crate::standing::Standing;
 use case_forms::{Header, Host, Judged, OutOfMemory};
 use spec_duties::{Observation, TouchedEndpoint, View};
+use spec_tcp::{Endpoint, EndpointId};
 use std::alloc::Global;
 use std::marker::Model;
 use std::mem::replace;
@@ -181,6 +183,31 @@ impl Flights {
             }
             None => None,
         }
+    }
+
+    /// Whether an endpoint may not send a segment with these bytes, because of its blocks: its peer's SYN didn't permit
+    /// them, or one reports what it doesn't hold.
+    pub fn sends_untrue(&self, id: EndpointId, endpoint: &Endpoint, bytes: &[u8]) -> bool
+        ensures { result ≡ sends_untrue self.now id.host id.number endpoint.now bytes.now }
+    {
+        let (next, irs) = (endpoint.rcv_nxt(), endpoint.irs);
+        if let Some(tables) = &self.tables {
+            if let Some(flight) = tables.get(id.host).get(u64::from(id.number)) {
+                return flight.is_untrue(next, irs, bytes);
+            }
+        }
+        Flight::new(self.alloc).is_untrue(next, irs, bytes)
+    }
+
+    /// Why an endpoint may not send a segment with these bytes. None: it may.
+    pub fn why_untrue(&self, id: EndpointId, endpoint: &Endpoint, bytes: &[u8]) -> Option<Untrue> {
+        let (next, irs) = (endpoint.rcv_nxt(), endpoint.irs);
+        if let Some(tables) = &self.tables {
+            if let Some(flight) = tables.get(id.host).get(u64::from(id.number)) {
+                return why_untrue(flight.sides.peers, &flight.held, next, irs, bytes);
+            }
+        }
+        Some(Untrue::NotPermitted)
     }
 
     /// What an endpoint knows of losses at a step that is refused at this moment, in microseconds. None: the step isn't

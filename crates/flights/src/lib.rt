@@ -12,6 +12,7 @@
 //!   them; `steps`: what a step changes of it
 //! - `late`: what is lost; `delivered`: what an acknowledgment delivers
 //! - `marks`: which positions a step marks, and from which it takes the mark
+//! - `held`: what an endpoint holds of its peer's stream beyond what is next in order, and what it may report
 //! - `flight`: what is kept of an endpoint; `free`: what may be sent again
 //! - `standing`: what an endpoint knows of a position that it sent, for explanations; `probe_standing`: what keeps it
 //!   from probing for a loss
@@ -23,6 +24,7 @@ mod delivered;
 mod flight;
 mod flights;
 mod free;
+mod held;
 mod late;
 mod laws;
 mod marks;
@@ -36,6 +38,7 @@ mod steps;
 mod walk;
 
 pub use flights::Flights;
+pub use held::Untrue;
 pub use laws::what_is_told_stays;
 pub use probe_standing::{ProbeStanding, ProbeWait};
 pub use standing::{Fate, Loss, Standing};

@@ -84,7 +84,7 @@ fn is_of_duties(rule: Rule) -> bool {
         Rule::CopyDiffers | Rule::Lifetime | Rule::Inbox | Rule::NotPeer => false,
         Rule::Number | Rule::Unacceptable | Rule::AckRange | Rule::QueueFull => false,
         Rule::Growth | Rule::Sample | Rule::TimerOff | Rule::TimerEarly => false,
-        Rule::Recovery | Rule::ScaleUnread | Rule::Unplaced => false,
+        Rule::Recovery | Rule::ScaleUnread | Rule::Unplaced | Rule::SackUntrue => false,
         Rule::Dropped | Rule::Discarded | Rule::ProcessLate | Rule::SendLate => true,
         Rule::AckLate | Rule::ExpiryLate | Rule::ResendLate | Rule::ProbeLate => true,
         Rule::StartLate | Rule::ResetLate | Rule::Resent | Rule::ResentBeyond => true,

@@ -16,7 +16,7 @@ use Rattle.spec_network.specs.Hosts.{Stamped, World}
 use Rattle.spec_network.specs.Tables.{Made, pick, waiting}
 use Rattle.spec_tcp.specs.Machine.{tcp, tcp_shape}
 use Rattle.spec_tcp.specs.declared.endpoint.Emission.{Emission}
-use Rattle.spec_cases.specs.Cases.{Known, first_known}
+use Rattle.spec_cases.specs.Cases.{Known, first_known, untrue_at}
 use Rattle.spec_duties.specs.Deadlines.{is_late}
 use Rattle.spec_duties.specs.Observations.{observe, view_in}
 use Rattle.spec_duties.specs.Watching.{Duties, builds_mere_ack, built_after, built_by, counts_now, duty_rules, sent_late}
@@ -251,7 +251,7 @@ module _ (h : Header) (slack n : ℕ) (acts : ℕ → Option (Stamped tcp_shape)
       let old = all_in_time j (omega (arith, low)) host number sent.1.made sent.1.there in
       let b = old.waits sent.1.unsent in
       let d = (known j).duties in
-      let fine = (none_all (duty_rules h slack y.moment d (observe h y.moment (known j).model y.step)) goes.dutiful).1.1.1.0 in
+      let fine = (none_all (duty_rules h slack y.moment d (untrue_at h (known j) y.step) (observe h y.moment (known j).model y.step)) goes.dutiful).1.1.1.0 in
       let due : is_late slack y.moment (option_map (λ (b : Built). b.since) (waiting number d.built)) ≡ false =
       sym (ap (λ p. sent_late slack y.moment (built_by d p)) sent.0) ∙ fine in (
         old.was,

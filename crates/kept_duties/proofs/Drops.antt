@@ -18,6 +18,7 @@ use Rattle.case_forms.specs.declared.steps.Witness.{Witness}
 use Rattle.case_forms.specs.declared.trace.Trace.{Trace}
 use Rattle.verdict.specs.declared.rule.Rule.{Rule}
 use Rattle.verdict.specs.declared.rule.Rule.TheVariants as rules
+use Rattle.spec_cases.specs.Cases.{untrue_at}
 use Rattle.verdict.proofs.RuleLemmas.{none_all}
 use Rattle.spec_network.specs.Hosts.{At, Drops, Takes, World}
 use Rattle.spec_network.specs.Tables.{on, pick, waiting}
@@ -187,7 +188,8 @@ module _ (t : Trace) (w : Witness) (slack : ℕ) (r : Run t.header slack (length
       (ap (λ (o : Option WitnessStep). option_map_or (act_of t.header t.lines) o None) is.here) in
       let k = known_before t w place in
       let p = on_passes (waiting line (pick k.model.hosts host).inbox) rules.Inbox _ goes.permitted in
-      let fine = (none_all (duty_rules t.header slack moment k.duties (observe t.header moment k.model (At host (Drops line)))) goes.dutiful).0 in
+      let fine = (none_all (duty_rules t.header slack moment k.duties (untrue_at t.header k (At host (Drops line)))
+      (observe t.header moment k.model (At host (Drops line)))) goes.dutiful).0 in
       by p.0 (subst (λ (v : World tcp_shape). waiting line (pick v.hosts host).inbox ≡ Some p.0) (world_is t w place) p.1)
       (subst (λ (v : World tcp_shape). drops_needed k.duties (Some (dropping_of host (taking_breaks t.header moment v host line)
       (answering_breaks t.header v host line)
@@ -247,7 +249,8 @@ module _ (t : Trace) (w : Witness) (slack : ℕ) (r : Run t.header slack (length
       (record { moment = moment; step = At host (Takes line choice) }) low
       (ap (λ (o : Option WitnessStep). option_map_or (act_of t.header t.lines) o None) is.here) in
       let k = known_before t w place in
-      let fine = (none_all (duty_rules t.header slack moment k.duties (observe t.header moment k.model (At host (Takes line choice)))) goes.dutiful).1.0 in
+      let fine = (none_all (duty_rules t.header slack moment k.duties (untrue_at t.header k (At host (Takes line choice)))
+      (observe t.header moment k.model (At host (Takes line choice)))) goes.dutiful).1.0 in
       let here : (observe t.header moment (world_before t w place) (At host (Takes line choice))).discards ≡ false =
       subst (λ (v : World tcp_shape). (observe t.header moment v (At host (Takes line choice))).discards ≡ false) (world_is t w place) fine in
       let b = host_before t w place host in

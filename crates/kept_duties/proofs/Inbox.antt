@@ -12,7 +12,7 @@ use Rattle.spec_network.specs.Hosts.{Stamped, World}
 use Rattle.spec_network.specs.Tables.{pick, waiting}
 use Rattle.spec_tcp.specs.Machine.{tcp_shape}
 use Rattle.spec_tcp.specs.declared.endpoint.Emission.{Emission}
-use Rattle.spec_cases.specs.Cases.{Known, first_known}
+use Rattle.spec_cases.specs.Cases.{Known, first_known, untrue_at}
 use Rattle.spec_duties.specs.Deadlines.{is_late}
 use Rattle.spec_duties.specs.End.{first_waiting}
 use Rattle.spec_duties.specs.Observations.{observe}
@@ -115,7 +115,7 @@ module _ (h : Header) (slack n : ℕ) (acts : ℕ → Option (Stamped tcp_shape)
         leaving g shows takes =
             let m = leaves_waits h y.moment (known j).model y.step g line goes.permitted takes in
             let same : g ≡ host = same_host j (omega (arith, less)) g m.0 m.1 in
-            let fine = (none_all (duty_rules h slack y.moment d (observe h y.moment (known j).model y.step)) goes.dutiful).1.1.0 in
+            let fine = (none_all (duty_rules h slack y.moment d (untrue_at h (known j) y.step) (observe h y.moment (known j).model y.step)) goes.dutiful).1.1.0 in
             inl (record {
               place = j;
               act = y;

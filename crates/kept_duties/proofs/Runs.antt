@@ -17,7 +17,8 @@ use Rattle.spec_network.specs.HostRules.{Permitted}
 use Rattle.spec_network.specs.HostSteps.{after, after_all, Lawful}
 use Rattle.spec_network.specs.Tables.{on}
 use Rattle.spec_tcp.specs.Machine.{tcp, tcp_shape}
-use Rattle.spec_cases.specs.Cases.{Known, Dutiful, first_known, known_after, known_after_all, watch_rules, with_waits}
+use Rattle.verdict.specs.declared.rule.Rule.TheVariants as rules
+use Rattle.spec_cases.specs.Cases.{Known, Dutiful, first_known, known_after, known_after_all, untrue_at, watch_rules, with_waits}
 use Rattle.spec_duties.specs.Observations.{observe, view_in}
 use Rattle.spec_duties.specs.Watching.{duty_rules, duties_after}
 use Rattle.checker.specs.Seen.{act_of, stamped}
@@ -36,7 +37,7 @@ onward P from (suc n) le p more =
 -- a step that is permitted and that no duty refuses: what it makes of what is known
 pub record Goes (h : Header) (slack : ℕ) (k next : Known) (x : Stamped tcp_shape) : Type 0 where
   pub permitted : Permitted (tcp h) x.moment k.model x.step
-  pub dutiful : first_broken (duty_rules h slack x.moment k.duties (observe h x.moment k.model x.step)) ≡ None
+  pub dutiful : first_broken (duty_rules h slack x.moment k.duties (untrue_at h k x.step) (observe h x.moment k.model x.step)) ≡ None
   pub model : next.model ≡ after (tcp h) x.moment k.model x.step
   pub duties : next.duties
       ≡ with_waits (says_sender h.version) x.moment (after (tcp h) x.moment k.model x.step) (observe h x.moment k.model x.step)
@@ -126,7 +127,8 @@ module _ (h : Header) (lines : List Line) where
   goes_at slack given k next x may is = record {
     permitted = may.0;
     dutiful =
-        sym (ap (λ o. first_broken (on o [] (λ slack. duty_rules h slack x.moment k.duties (observe h x.moment k.model x.step)))) given)
+        sym (ap (λ o. first_broken (on o ((rules.SackUntrue, untrue_at h k x.step) ∷ [])
+        (λ slack. duty_rules h slack x.moment k.duties (untrue_at h k x.step) (observe h x.moment k.model x.step)))) given)
         ∙ may.1;
     model = ap (λ (m : Known). m.model) is;
     duties =

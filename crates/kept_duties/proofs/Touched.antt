@@ -46,7 +46,7 @@ use Rattle.spec_tcp.specs.declared.endpoint.SocketTarget.TheVariants.{ListenerAt
 use Rattle.spec_tcp_laws.specs.Consequences.{find}
 use Rattle.spec_tcp_laws.proofs.Rules.{on_cases}
 use Rattle.spec_tcp_laws.proofs.Runs.{Steady, later_step}
-use Rattle.spec_cases.specs.Cases.{Known}
+use Rattle.spec_cases.specs.Cases.{Known, untrue_at}
 use Rattle.spec_duties.specs.Dropped.{taking_breaks}
 use Rattle.spec_duties.specs.Excess.{is_excess}
 use Rattle.spec_duties.specs.Owed.{late_rules, lates_of, nothing, owed_after}
@@ -364,10 +364,10 @@ module _ (h : Header) (slack : ℕ) (k next : Known) (x : Stamped tcp_shape) (me
   -- by the step's event at it
   pub owes_after : (event : Event) → shown.touched ≡ Some (touched k.model me event) → Owes h slack k next x me event
   owes_after event shows =
-      let rules = (none_all (duty_rules h slack x.moment k.duties shown) goes.dutiful).1.1.1.1 in
+      let rules = (none_all (duty_rules h slack x.moment k.duties (untrue_at h k x.step) shown) goes.dutiful).1.1.1.1 in
       let here =
-      subst (λ (o : Option TouchedEndpoint). AllByRecursion (λ r. r.1 ≡ false) (on o (answer_rules slack x.moment k.duties shown.call_change)
-      (touched_rules h slack x.moment k.duties counts
+      subst (λ (o : Option TouchedEndpoint). AllByRecursion (λ r. r.1 ≡ false) (on o (answer_rules slack x.moment k.duties (untrue_at h k x.step) shown.call_change)
+      (touched_rules h slack x.moment k.duties counts (untrue_at h k x.step)
       (sent_by k.duties shown.built_change) shown.sampling))) shows rules in
       record {
         counts = counts;

@@ -456,6 +456,13 @@ memory pressure",
             rfc: "5681, 4.2",
             ..PLAIN
         },
+        Rule::SackUntrue => &Meaning {
+            refused: "the host reports data that it doesn't hold, or its peer didn't permit such reports",
+            usual: "the stack builds a SACK block with wrong edges, or of data that it discarded, or without permission",
+            captured: "the capture lost a received segment",
+            rfc: "2018, 2 to 4",
+            ..PLAIN
+        },
         Rule::SampleDue => &Meaning {
             refused: "no round trip is measured, though one is due",
             usual: "the witness leaves out a sample; a stack has to measure at least one round trip for each flight",

@@ -242,7 +242,7 @@ fn reason_of(world: &World, step: &Step, rule: Rule) -> Reason {
         Rule::Unplaced | Rule::Dropped | Rule::Discarded | Rule::ProcessLate => Reason::Other,
         Rule::SendLate | Rule::AckLate | Rule::ExpiryLate | Rule::ResendLate => Reason::Other,
         Rule::ProbeLate | Rule::StartLate | Rule::ResetLate | Rule::Resent => Reason::Other,
-        Rule::ResentBeyond | Rule::AckExcess | Rule::SampleDue => Reason::Other,
-        Rule::AnswerLate => Reason::Other,
+        Rule::ResentBeyond | Rule::AckExcess | Rule::SackUntrue => Reason::Other,
+        Rule::SampleDue | Rule::AnswerLate => Reason::Other,
     }
 }

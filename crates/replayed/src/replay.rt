@@ -77,7 +77,7 @@ impl<'c> Replay<'c> {
         self.watched.duties()
     }
 
-    /// What is kept of data in flight.
+    /// What is kept of data in flight after these steps: nothing in versions 1 to 5.
     pub fn flights(&self) -> &Flights {
         self.watched.flights()
     }

@@ -1,19 +1,24 @@
 -- The model of a case, with its data in flight and its duties.
-use Rattle.std.specs.Prelude.{◌≡◌, ℕ, suc, nat_eq, Bool, true, if◌then◌else◌, List, [], ◌∷◌, ◌++◌, map, Option}
-use Rattle.std.specs.Prelude.{None, Some}
+use Rattle.std.specs.Prelude.{◌≡◌, ℕ, suc, nat_eq, Bool, true, false, not, ◌&&◌, if◌then◌else◌, List, [], ◌∷◌, ◌++◌}
+use Rattle.std.specs.Prelude.{map, Option, None, Some, slice_get}
+use Rattle.std.specs.Map.{lookup}
 use Rattle.std.specs.Option.{option_map_or}
 use Rattle.case_forms.specs.declared.calls.Host.{Host}
 use Rattle.case_forms.specs.declared.trace.Header.{Header}
+use Rattle.case_forms.specs.declared.trace.Wire.{Wire}
 use Rattle.case_forms.specs.Versions.{says_sender}
 use Rattle.verdict.specs.declared.rule.Rule.{Rule}
+use Rattle.verdict.specs.declared.rule.Rule.TheVariants as rules
 use Rattle.verdict.specs.Rules.{first_broken, rule_number}
 use Rattle.spec_network.specs.Hosts as network
-use Rattle.spec_network.specs.Hosts.{HostStep, Stamped, Step, World}
+use Rattle.spec_network.specs.Hosts.{HostState, HostStep, Stamped, Step, World}
 use Rattle.spec_network.specs.HostRules.{step_rules}
 use Rattle.spec_network.specs.HostSteps as steps
-use Rattle.spec_network.specs.Tables.{on}
+use Rattle.spec_network.specs.Tables.{on, pick}
 use Rattle.spec_tcp.specs.Forgetting as forgetting
+use Rattle.spec_tcp.specs.HostTcp.{HostTcp}
 use Rattle.spec_tcp.specs.Machine.{tcp, tcp_shape}
+use Rattle.spec_tcp.specs.declared.endpoint.Emission.{Emission}
 use Rattle.spec_duties.specs.Answering.{waits_after}
 use Rattle.spec_duties.specs.Observations.{observe, view_in}
 use Rattle.spec_duties.specs.declared.observations.Observation.{Observation}
@@ -21,7 +26,7 @@ use Rattle.spec_duties.specs.Watching as watching
 use Rattle.spec_duties.specs.Watching.{Duties, duty_rules, duties_after}
 use Rattle.spec_duties.specs.End as end
 use Rattle.spec_flights.specs.Flights as flights
-use Rattle.spec_flights.specs.Flights.{Flights, flights_after, refusal}
+use Rattle.spec_flights.specs.Flights.{Flights, flights_after, refusal, sends_untrue}
 
 -- the model's world, what is kept of data in flight, and what its hosts owe
 pub record Known : Type 0 where
@@ -41,9 +46,11 @@ first_known h = record { model = steps.start (tcp h); flights = flights.start; d
 abbrev pub start : Header → Watched
 start h = record { header = h; world = first_known h; steps = 0 }
 
--- the rules of duties if the header gives a slack; none if it says `any`
-abbrev pub judged_rules : Header → (moment : ℕ) → Duties → Observation → List (Rule × Bool)
-judged_rules h moment d s = on h.slack [] (λ slack. duty_rules h slack moment d s)
+-- the rules of duties if the header gives a slack. If it says `any`, one: what an endpoint reports as received is true
+-- or not at any moment
+abbrev pub judged_rules : Header → (moment : ℕ) → Duties → (untrue : Bool) → Observation → List (Rule × Bool)
+judged_rules h moment d untrue s =
+    on h.slack ((rules.SackUntrue, untrue) ∷ []) (λ slack. duty_rules h slack moment d untrue s)
 
 -- the same with what is kept of calls that wait, for the stricter duties
 abbrev pub with_waits : (strict : Bool) → (moment : ℕ) → (after : World tcp_shape) → Observation → Duties → Duties
@@ -59,9 +66,29 @@ noted_by h moment w s d =
     (λ slack. with_waits (says_sender h.version) moment w s
     (duties_after (says_sender h.version) slack (view_in w s.touched) moment s d))
 
+-- a line shows a segment with blocks that its sender may not send; a reset in answer to a segment has no sender
+abbrev pub untrue_from : Flights → Host → HostTcp → Wire → Emission → Bool
+untrue_from fs host b wire m =
+    not m.is_reset_reply
+    && option_map_or (λ e. sends_untrue fs host m.sender.number e wire.bytes) (slice_get b.endpoints m.sender.number)
+    false
+
+abbrev pub untrue_sent : Flights → Host → HostState tcp_shape → (number : ℕ) → Wire → Bool
+untrue_sent fs host s number wire =
+    option_map_or (λ m. untrue_from fs host s.body wire m.emission) (lookup (nat_eq number) s.made) false
+
+-- a step does, from version 6 on
+abbrev pub untrue_by : Known → Host → HostStep tcp_shape → Bool
+untrue_by k host (network.Sends line number wire) = untrue_sent k.flights host (pick k.model.hosts host) number wire
+untrue_by k host d = false
+
+abbrev pub untrue_at : Header → Known → Step tcp_shape → Bool
+untrue_at h k (network.At host d) = says_sender h.version && untrue_by k host d
+untrue_at h k step = false
+
 -- the rules of duties at a step
 abbrev pub watch_rules : Header → (moment : ℕ) → Known → Step tcp_shape → List (Rule × Bool)
-watch_rules h moment k step = judged_rules h moment k.duties (observe h moment k.model step)
+watch_rules h moment k step = judged_rules h moment k.duties (untrue_at h k step) (observe h moment k.model step)
 
 -- the rule counts as broken
 abbrev pub with_broken : Rule → Rule × Bool → Rule × Bool

@@ -13,6 +13,7 @@ pub mod Credits
 pub mod Owed
 pub mod Sampling
 pub mod Blocks
+pub mod Kept
 pub mod Strict
 pub mod Dropped
 pub mod Answering

@@ -40,6 +40,7 @@ use Rattle.spec_duties.specs.Dropped.{asks, earns_by_dropping, earns_by_taking}
 use Rattle.spec_duties.specs.Dropped.{discards_at, is_old, reads_old_numbers}
 use Rattle.spec_duties.specs.Sampling.{sampling_at}
 use Rattle.spec_duties.specs.Blocks.{blocks_taken, no_blocks}
+use Rattle.spec_duties.specs.Kept.{kept_at, nothing_kept}
 use Rattle.spec_duties.specs.Answering.{CallChange, answering, beginning, judged_call, judged_socket, socket_changing}
 use Rattle.spec_duties.specs.declared.answering.CallChange.TheVariants as call_change
 use Rattle.spec_duties.specs.declared.answering.SocketChange.TheVariants as socket_change
@@ -68,6 +69,7 @@ unseen = record {
   earns = false;
   syn_change = syn_change.Nothing;
   blocks = no_blocks;
+  kept = nothing_kept;
   call_change = call_change.Nothing;
   socket_change = socket_change.Nothing;
 }
@@ -160,6 +162,7 @@ observe_taking h host b line how m t =
       earns = earns_by_taking h.version m t;
       syn_change = syn_taken h.version m t;
       blocks = blocks_taken h.version m t;
+      kept = kept_at h.version how m t;
     }
 
 abbrev pub observe_dropping : Version → Host → HostTcp → (line : ℕ) → (taking answering : Option Rule) → Emission

@@ -125,12 +125,13 @@ abbrev pub sends_in_excess : Header → (slack : ℕ) → Duties → Option Unse
 sends_in_excess h slack d sent t =
     says_sender h.version && option_map_or (lacks_credit slack d t.host t.place) sent false
 
--- the limits on repetition, and the measurement that is due; `lacks`: an acknowledgment is sent without a credit
-abbrev pub limit_rules : Header → TouchedEndpoint → (counts lacks due : Bool) → Owed → List (Rule × Bool)
-limit_rules h t counts lacks due o =
+-- the limits on repetition, what may be reported, and the measurement that is due; `lacks`: an acknowledgment is sent
+-- without a credit; `untrue`: one reports what isn't held
+abbrev pub limit_rules : Header → TouchedEndpoint → (counts lacks untrue due : Bool) → Owed → List (Rule × Bool)
+limit_rules h t counts lacks untrue due o =
     (rules.Resent, not (says_sender h.version) && is_resent h.congestion t.event t.before o.again)
     ∷ (rules.ResentBeyond, not (says_sender h.version) && is_resent_beyond h.congestion t.event t.before)
-    ∷ (rules.AckExcess, is_excess counts o.answers || lacks) ∷ (rules.SampleDue, due) ∷ []
+    ∷ (rules.AckExcess, is_excess counts o.answers || lacks) ∷ (rules.SackUntrue, untrue) ∷ (rules.SampleDue, due) ∷ []
 
 -- which duties of an endpoint are late: in version 6, by the stricter ones
 abbrev pub judged_lates : Header → (slack moment : ℕ) → Duties → (brought : Option ℕ) → Host → (place : ℕ) → View
@@ -142,25 +143,28 @@ judged_lates h slack moment d brought host place v =
     else lates_of slack moment v (listener_closed d host v) (owed_by d host place)
 
 -- the rules of an endpoint that a step touches
-abbrev pub touched_rules : Header → (slack moment : ℕ) → Duties → (counts : Bool) → (sent : Option Unsent) → Sampling
-    → TouchedEndpoint → List (Rule × Bool)
-touched_rules h slack moment d counts sent s t =
+abbrev pub touched_rules : Header → (slack moment : ℕ) → Duties → (counts untrue : Bool) → (sent : Option Unsent)
+    → Sampling → TouchedEndpoint → List (Rule × Bool)
+touched_rules h slack moment d counts untrue sent s t =
     late_rules (judged_lates h slack moment d (brought_by sent) t.host t.place t.before)
-    ++ limit_rules h t counts (sends_in_excess h slack d sent t)
+    ++ limit_rules h t counts (sends_in_excess h slack d sent t) untrue
     (is_sample_due s (strict_by d t.host t.place).timed) (owed_by d t.host t.place)
 
--- the rule of a step at a call of which nothing is owed but its answer
-abbrev pub answer_rules : (slack moment : ℕ) → Duties → CallChange → List (Rule × Bool)
-answer_rules slack moment d change = (rules.AnswerLate, is_answer_late slack moment d.waits change) ∷ []
+-- the rules of a step at no endpoint; of a call that waits, nothing is owed but its answer
+abbrev pub answer_rules : (slack moment : ℕ) → Duties → (untrue : Bool) → CallChange → List (Rule × Bool)
+answer_rules slack moment d untrue change =
+    (rules.SackUntrue, untrue) ∷ (rules.AnswerLate, is_answer_late slack moment d.waits change) ∷ []
 
--- all rules of duties at a step; one that begins, answers or ends a call that waits touches no endpoint
-abbrev pub duty_rules : Header → (slack moment : ℕ) → Duties → Observation → List (Rule × Bool)
-duty_rules h slack moment d s =
+-- all rules of duties at a step; one that begins, answers or ends a call that waits touches no endpoint. `untrue`: the
+-- step sends a selective acknowledgment that isn't true
+abbrev pub duty_rules : Header → (slack moment : ℕ) → Duties → (untrue : Bool) → Observation → List (Rule × Bool)
+duty_rules h slack moment d untrue s =
     (rules.Dropped, drops_needed d s.dropping) ∷ (rules.Discarded, s.discards)
     ∷ (rules.ProcessLate, leaves_late slack moment d s.inbox_change)
     ∷ (rules.SendLate, sent_late slack moment (built_by d s.built_change))
-    ∷ on s.touched (answer_rules slack moment d s.call_change)
-    (touched_rules h slack moment d (counts_now (built_by d s.built_change)) (sent_by d s.built_change) s.sampling)
+    ∷ on s.touched (answer_rules slack moment d untrue s.call_change)
+    (touched_rules h slack moment d (counts_now (built_by d s.built_change)) untrue (sent_by d s.built_change)
+    s.sampling)
 
 -- what is owed after a step at an endpoint, which is then seen like this
 abbrev pub owed_table_after : (after : View) → (moment : ℕ) → (counts : Bool) → Duties → TouchedEndpoint

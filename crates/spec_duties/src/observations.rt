@@ -88,6 +88,14 @@ pub struct Blocks {
     pub fourth: Option<Block>,
 }
 
+/// Positions of the peer's stream that processing a segment keeps: from `from` to before `upto`; none if `upto` isn't
+/// above `from`. Some may have been kept before.
+#[derive(Clone, Copy)]
+pub struct Kept {
+    pub from: u64,
+    pub upto: u64,
+}
+
 /// A segment that is dropped.
 #[derive(Clone, Copy)]
 pub struct Dropping {
@@ -127,6 +135,8 @@ pub struct Observation {
     pub syn_change: SynChange,
     /// Which positions the segment that is processed reports as received, by its blocks. Versions 1 to 5 don't ask.
     pub blocks: Blocks,
+    /// What is kept of that segment. Versions 1 to 5 don't ask.
+    pub kept: Kept,
     /// What it does to the call of a thread, and to a socket. Versions 1 to 5 don't ask.
     pub call_change: CallChange,
     pub socket_change: SocketChange,

@@ -13,13 +13,16 @@ use Rattle.case_forms.specs.declared.calls.Host.{Host}
 use Rattle.case_forms.specs.declared.steps.SegmentPlan.{SegmentPlan}
 use Rattle.case_forms.specs.declared.timer.Timer.TheVariants.{Pto, Rto, Persist}
 use Rattle.case_forms.specs.declared.trace.Header.{Header}
+use Rattle.segment.specs.Reading.{sack_blocks}
 use Rattle.verdict.specs.declared.rule.Rule.{Rule}
 use Rattle.verdict.specs.declared.rule.Rule.TheVariants as rules
 use Rattle.streams.specs.Flying.{flying}
 use Rattle.streams.specs.Pieces.{known_from}
 use Rattle.streams.specs.Ranges.{covers, meets, positions}
 use Rattle.spec_network.specs.Tables.{Both, on, pick, with_host}
+use Rattle.spec_tcp.specs.Endpoints.{rcv_nxt}
 use Rattle.spec_tcp.specs.Makes.Payload.{making_length}
+use Rattle.spec_tcp.specs.declared.endpoint.Endpoint.{Endpoint}
 use Rattle.spec_duties.specs.Events.{acknowledges_more}
 use Rattle.spec_duties.specs.Resent.{judges_repeats}
 use Rattle.spec_duties.specs.Strict.{is_fin_alone}
@@ -31,6 +34,7 @@ use Rattle.spec_duties.specs.declared.observations.Observation.{Observation}
 use Rattle.spec_duties.specs.declared.observations.TouchedEndpoint.{TouchedEndpoint}
 use Rattle.spec_duties.specs.declared.views.View.{View}
 use Rattle.spec_flights.specs.Delivered.{Reports, heard, read_reports}
+use Rattle.spec_flights.specs.Held.{held_after, is_untrue}
 use Rattle.spec_flights.specs.Late.{has_below, resent_below, settled}
 use Rattle.spec_flights.specs.Marks.{marks_after, old_part, opens_probed}
 use Rattle.spec_flights.specs.Probing.{Probing, is_due, is_early_probe, is_none, not_probing, probing_after}
@@ -41,7 +45,7 @@ use Rattle.spec_flights.specs.Stretches.{Stretch}
 
 -- what is kept of an endpoint: what the two SYNs permit, from which loss it recovers, which positions are marked, in
 -- order, what is known of each outstanding one, whether it made use of a rescue since the recovery began, and how far a
--- probe for a loss is
+-- probe for a loss is; and which positions of its peer's stream it holds beyond what is next, in order
 pub record Flight : Type 0 where
   pub sides : Sides
   pub recovery : Recovery
@@ -49,6 +53,7 @@ pub record Flight : Type 0 where
   pub board : Scoreboard
   pub rescued : Bool
   pub probing : Probing
+  pub held : List ℕ
 
 abbrev pub unflown : Flight
 unflown = record {
@@ -58,6 +63,7 @@ unflown = record {
   board = nothing_built;
   rescued = false;
   probing = not_probing;
+  held = [];
 }
 
 -- of all endpoints of both hosts, by their places
@@ -167,6 +173,12 @@ refusal h moment fs s =
     (λ t. broken_at (judges_repeats h.congestion) (moment + h.grain) t.event t.before (flight_at fs t.host t.place))
     else None
 
+-- at an endpoint, which sends a segment with these bytes: its blocks aren't permitted, or not true
+abbrev pub sends_untrue : Flights → (host : Host) → (place : ℕ) → Endpoint → (bytes : List ℕ) → Bool
+sends_untrue fs host place e bytes =
+    is_untrue (flight_at fs host place).sides.peers (from_list (flight_at fs host place).held) (rcv_nxt e) e.irs
+    (sack_blocks bytes)
+
 -- ---- what is kept after a step
 
 -- in fast recovery, an acknowledgment marks the next segment, unless blocks show what is lost
@@ -232,6 +244,7 @@ flight_by moment clock s t after sides r f = record {
       (read_reports sides s.blocks) f.board;
   rescued = rescued_after clock t.event t.before f;
   probing = probing_after moment t.event t.before after f.probing;
+  held = held_after s.kept after.rcv_nxt f.held;
 }
 
 abbrev pub flight_after : (moment clock : ℕ) → Observation → TouchedEndpoint → (after : View) → Flight → Flight

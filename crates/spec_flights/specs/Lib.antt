@@ -6,4 +6,5 @@ pub mod Scoreboard
 pub mod Late
 pub mod Delivered
 pub mod Marks
+pub mod Held
 pub mod Flights

@@ -17,6 +17,7 @@
 //! - `specs/Late`: what is lost, since something that was sent later was delivered
 //! - `specs/Delivered`: what an acknowledgment delivers, by its number and by its blocks
 //! - `specs/Marks`: which positions may be sent again, and for which reasons
+//! - `specs/Held`: what an endpoint holds of its peer's stream beyond what is next in order, and may report
 //! - `specs/Flights`: what is kept of each endpoint, what it refuses, and what is kept after a step
 #![tactic(auto)]
 

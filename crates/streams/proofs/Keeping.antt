@@ -10,10 +10,11 @@ use Rattle.streams.specs.declared.cell.Cell.TheVariants.{Byte}
 use Rattle.streams.specs.Cells.{body, is_fin, put_all}
 use Rattle.streams.specs.Forgetting.{fade, forgotten}
 use Rattle.streams.specs.Lists.{Within}
-use Rattle.streams.specs.Received.{Receiving, body_kept, has_end, kept, part_kept}
+use Rattle.streams.specs.Received.{Receiving, body_kept, end_kept, has_end, kept, part_kept}
 use Rattle.streams.specs.Views.{gone_cells}
 use Rattle.streams.proofs.Fades.{fade-put_all, is_fin-fade, length-fade}
 use Rattle.streams.proofs.Fronts.{body_ends}
+use Rattle.streams.proofs.Writes.{length_body}
 use Rattle.streams.proofs.Gone.{get_gone, gone_fin, put_all_gone}
 
 -- a part of the bytes, without the FIN
@@ -46,6 +47,14 @@ part_short taken position bytes = go (has_end taken)
     go : (end : Bool) → length (if end then take (length taken - 1 - position) bytes else bytes) ≤ length bytes
     go true = omega (arith, length-take (length taken - 1 - position) bytes)
     go false = omega arith
+
+-- and of all that is kept
+pub body_short : (taken : List (Option Cell)) (position : ℕ) (bytes : List ℕ) (fin : Bool)
+    → length (body_kept taken position bytes fin) ≤ length bytes + 1
+body_short taken position bytes fin =
+    let part = part_short taken position bytes in
+    let most = length_body (part_kept taken position bytes) (end_kept taken position bytes fin) in
+    omega arith
 
 -- nothing of it goes by what was forgotten
 pub body_kept-fade : (n : ℕ) (taken : List (Option Cell)) (position : ℕ) (bytes : List ℕ) (fin : Bool)

@@ -11,7 +11,7 @@ use Rattle.streams.specs.Cells.{body, cells_of, front, is_fin, leading, put_all}
 use Rattle.streams.specs.Received.{body_kept}
 use Rattle.streams.specs.Views.{bytes_then, ends, fin_alone, marked_bytes, leading_received}
 use Rattle.streams.proofs.Marked.{length_marked, kept_marked, written, marked_front, then_behind}
-use Rattle.streams.proofs.Thens.{drop_then, ended_bytes, ended_rest, front_then, kept_end, kept_then, leading_then, then_then}
+use Rattle.streams.proofs.Thens.{body_kept_then, drop_then, ended_bytes, ended_rest, front_then, kept_end, kept_then, leading_then, then_then}
 
 -- a queue's list: bytes in front, bytes behind them of which some are marked, and a FIN
 abbrev pub shown : (r : ℕ) (vs ms : List ℕ) (f : Bool) → List (Option Cell)
@@ -201,6 +201,28 @@ kept_behind r vs ms f xs at bytes fin part end h e l p q =
     ∙ (sym (kept_then (take r vs) rest (at - r) bytes fin)
     ∙ (ap (λ (n : ℕ). put_all (bytes_then (take r vs) rest) n (body_kept (bytes_then (take r vs) rest) n bytes fin)) there
     ∙ ap (λ (ys : List (Option Cell)). put_all ys at (body_kept ys at bytes fin)) e))
+
+-- the same without its place
+pub kept_part : (r : ℕ) (vs ms : List ℕ) (f : Bool) (xs : List (Option Cell)) (at : ℕ) (bytes : List ℕ) (fin : Bool) (part : List ℕ) (end : Bool)
+    → length vs ≡ r + length ms → shown r vs ms f ≡ xs → r ≤ at
+    → part ≡ (if f then take (length ms - (at - r)) bytes else bytes) → end ≡ (fin && not f && nat_le (length ms) (at - r + length part))
+    → body_kept xs at bytes fin ≡ body part end
+kept_part r vs ms f xs at bytes fin part end h e l p q =
+    let rest = marked_bytes ms (drop r vs) ++ fin_alone f in
+    let long = in_front_long r vs ms h in
+    let there : length (take r vs) + (at - r) ≡ at = omega arith in
+    sym (ap (λ (ys : List (Option Cell)). body_kept ys at bytes fin) e)
+    ∙ (sym (ap (λ (n : ℕ). body_kept (bytes_then (take r vs) rest) n bytes fin) there)
+    ∙ (body_kept_then (take r vs) rest (at - r) bytes fin
+    ∙ kept_marked ms (drop r vs) f (at - r) bytes fin part end (behind_long r vs ms h) p q))
+
+pub counted_bytes : (part : List ℕ) → length (body part false) ≡ length part
+counted_bytes [] = refl
+counted_bytes (v ∷ part) = ap (λ n. suc n) (counted_bytes part)
+
+pub counted_ended : (part : List ℕ) → length (body part true) ≡ length part + 1
+counted_ended [] = refl
+counted_ended (v ∷ part) = let more = counted_ended part in omega arith
 
 pub kept_nothing : (r : ℕ) (vs ms : List ℕ) (f : Bool) (xs : List (Option Cell)) (at : ℕ) (bytes : List ℕ) (fin : Bool) (part : List ℕ) (end : Bool)
     → length vs ≡ r + length ms → shown r vs ms f ≡ xs → r ≤ at

@@ -75,7 +75,7 @@ has_end_then (v ∷ b) (x ∷ xs) =
     let last : suc (length xs) - 1 ≡ length xs = omega arith in
     rw (here, last) (ap is_fin (get_then (v ∷ b) (x ∷ xs) (length xs)))
 
-body_kept_then : (b : List ℕ) (xs : List (Option Cell)) (at : ℕ) (bytes : List ℕ) (fin : Bool)
+pub body_kept_then : (b : List ℕ) (xs : List (Option Cell)) (at : ℕ) (bytes : List ℕ) (fin : Bool)
     → body_kept (bytes_then b xs) (length b + at) bytes fin ≡ body_kept xs at bytes fin
 body_kept_then b xs at bytes fin =
     let long = length_then b xs in

@@ -124,6 +124,19 @@ impl CellQueue {
         Ok(())
     }
 
+    /// How many places `keep` would fill, or find filled.
+    pub(crate) fn kept_count(&self, at: usize, bytes: &[u8], fin: bool) -> usize
+        requires at { length (front self.now) ≤ at }
+        requires small { at + length bytes.now + 1 < 2 ^ 63 }
+        ensures { result ≡ length (body_kept self.now at bytes.now fin) }
+    {
+        let at = at - self.ready;
+        let known = self.marks.len();
+        let part = part_kept(known, self.fin, at, bytes);
+        let end = end_kept(known, self.fin, at, part, fin);
+        if end { part.len() + 1 } else { part.len() }
+    }
+
     /// Removes this many bytes from the front.
     pub(crate) fn drop_front(&mut self, count: usize)
         requires { count ≤ length (leading self.old) }

@@ -6,7 +6,7 @@
 //! as 0. `specs/Received` defines each call.
 
 ghost use Rattle.std.specs.Prelude.{◌≡◌, ◌+◌, ◌≤◌, ◌<◌, ◌^◌, nat_lt, OnOk, OnErr, IfOk, length, take};
-ghost use Rattle.streams.specs.Received.{empty, is_ended, kept, met, next, starts, told, waiting};
+ghost use Rattle.streams.specs.Received.{body_kept, empty, is_ended, kept, met, next, starts, told, waiting};
 ghost use Rattle.streams.specs.Forgetting.{forgotten};
 
 use super::cell_queue::CellQueue;
@@ -108,6 +108,17 @@ impl ReceiveBuffer {
         }
         self.cells.keep(at, bytes, fin)?;
         Ok(())
+    }
+
+    /// How many positions `keep` would accept, those included that were received earlier.
+    pub fn kept_count(&self, position: u64, bytes: &[u8], fin: bool) -> u64
+        requires next { next self.now ≤ position }
+        requires small { position + length bytes.now + 1 < 2 ^ 63 }
+        ensures value { result ≡ length (body_kept self.now.taken position bytes.now fin) }
+        ensures small { result ≤ length bytes.now + 1 }
+    {
+        let at = (position - self.gone) as usize;
+        self.cells.kept_count(at, bytes, fin) as u64
     }
 
     /// Delivers the next waiting bytes, this many, and discards them.

@@ -57,6 +57,7 @@ rule_number rules.ResetLate = 49
 rule_number rules.Resent = 50
 rule_number rules.ResentBeyond = 51
 rule_number rules.AckExcess = 52
+rule_number rules.SackUntrue = 53
 rule_number rules.SampleDue = 56
 rule_number rules.AnswerLate = 57
 
@@ -114,6 +115,7 @@ rule_name rules.ResetLate = codes "reset-late"
 rule_name rules.Resent = codes "resent"
 rule_name rules.ResentBeyond = codes "resent-beyond"
 rule_name rules.AckExcess = codes "ack-excess"
+rule_name rules.SackUntrue = codes "sack-untrue"
 rule_name rules.SampleDue = codes "sample-due"
 rule_name rules.AnswerLate = codes "answer-late"
 

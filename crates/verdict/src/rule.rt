@@ -113,6 +113,8 @@ pub enum Rule {
     ResentBeyond,
     /// There are more acknowledgments than received segments (RFC 5681, 4.2).
     AckExcess,
+    /// A selective acknowledgment reports what the host doesn't hold, or wasn't permitted (RFC 2018, 2 to 4).
+    SackUntrue,
     /// A round trip isn't measured, though none was since this data was sent (RFC 6298, 3).
     SampleDue,
     /// A call that can be answered is answered late (RFC 9293, 3.9.1).
@@ -178,6 +180,7 @@ impl Rule {
             Rule::Resent => "resent",
             Rule::ResentBeyond => "resent-beyond",
             Rule::AckExcess => "ack-excess",
+            Rule::SackUntrue => "sack-untrue",
             Rule::SampleDue => "sample-due",
             Rule::AnswerLate => "answer-late",
         }
@@ -240,6 +243,7 @@ impl Rule {
             Rule::Resent => 50,
             Rule::ResentBeyond => 51,
             Rule::AckExcess => 52,
+            Rule::SackUntrue => 53,
             Rule::SampleDue => 56,
             Rule::AnswerLate => 57,
         }

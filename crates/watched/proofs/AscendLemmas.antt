@@ -32,7 +32,7 @@ use Rattle.std.proofs.lemmas.Bool.Decides.{nat_tests}
 use Rattle.spec_duties.specs.declared.answering.CallChange.{CallChange}
 use Rattle.spec_duties.specs.Observations.{observe}
 use Rattle.spec_duties.specs.Watching.{answer_rules, built_by, counts_now, duty_rules, sent_by, touched_rules}
-use Rattle.spec_cases.specs.Cases.{Known, watch_rules}
+use Rattle.spec_cases.specs.Cases.{Known, untrue_at, watch_rules}
 use Rattle.spec_duties.specs.declared.observations.Sampling.{Sampling}
 use Rattle.spec_duties.specs.declared.observations.Observation.{Observation}
 use Rattle.spec_duties.specs.declared.observations.TouchedEndpoint.{TouchedEndpoint}
@@ -132,11 +132,15 @@ rules_top h moment w (At host d) = tops_host_step h host moment (pick w.hosts (o
 pub watch_ascend : (h : Header) (moment : ℕ) (k : Known) (step : Step tcp_shape) → ascend 40 (watch_rules h moment k step) ≡ true
 watch_ascend h moment k step = by h.slack (observe h moment k.model step)
   where
+    untrue : Bool
+    untrue = untrue_at h k step
+
     touched : (slack : ℕ) (counts : Bool) (sent : Option Unsent) (s : Sampling) (change : CallChange) (o : Option TouchedEndpoint)
-        → ascend 43 (on o (answer_rules slack moment k.duties change) (touched_rules h slack moment k.duties counts sent s)) ≡ true
+        → ascend 43 (on o (answer_rules slack moment k.duties untrue change) (touched_rules h slack moment k.duties counts untrue sent s)) ≡ true
     touched slack counts sent s change None = refl
     touched slack counts sent s change (Some t) = refl
 
-    by : (o : Option ℕ) (s : Observation) → ascend 40 (on o [] (λ slack. duty_rules h slack moment k.duties s)) ≡ true
+    by : (o : Option ℕ) (s : Observation)
+        → ascend 40 (on o ((rules.SackUntrue, untrue) ∷ []) (λ slack. duty_rules h slack moment k.duties untrue s)) ≡ true
     by None s = refl
     by (Some slack) s = touched slack (counts_now (built_by k.duties s.built_change)) (sent_by k.duties s.built_change) s.sampling s.call_change s.touched

@@ -14,6 +14,7 @@ use Rattle.case_forms.specs.declared.trace.Event.TheVariants.{CallBegin, CallEnd
 use Rattle.case_forms.specs.declared.trace.Line.{Line}
 use Rattle.case_forms.specs.declared.trace.Header.{Header}
 use Rattle.verdict.specs.declared.rule.Rule.{Rule}
+use Rattle.verdict.specs.declared.rule.Rule.TheVariants as rules
 use Rattle.verdict.specs.Rules.{first_broken}
 use Rattle.verdict.proofs.RuleLemmas.{none_both, first_broken-append_none, first_broken-append_some}
 use Rattle.spec_network.specs.HostRules.{step_rules}
@@ -36,10 +37,10 @@ use Rattle.spec_duties.specs.Answering.{Waits, beginning, waits_after}
 use Rattle.spec_duties.specs.declared.answering.CallChange.{CallChange}
 use Rattle.spec_duties.specs.Observations.{observe, observe_turn, unseen, view_in}
 use Rattle.spec_duties.specs.Watching.{Duties, duty_rules, duties_after}
-use Rattle.duties.proofs.SlackLemmas.{not_judging, refused_unjudged}
+use Rattle.duties.proofs.SlackLemmas.{not_judging, refused_unjudged, unasked}
 use Rattle.spec_flights.specs.Flights.{Flights, flights_after, refusal}
 use Rattle.spec_cases.specs.Cases.{Known, after, asked_after, asked_rules, broken_by, forget, flown, case_rules, judged_rules}
-use Rattle.spec_cases.specs.Cases.{known_after, model_rules, noted_by, refused_at, refused_by, watch_rules, with_refusal, with_waits}
+use Rattle.spec_cases.specs.Cases.{known_after, model_rules, noted_by, refused_at, refused_by, untrue_at, watch_rules, with_refusal, with_waits}
 use Rattle.spec_duties.specs.declared.answering.CallChange.TheVariants as call_change
 use Rattle.spec_duties.specs.declared.observations.Observation.{Observation}
 use Rattle.spec_duties.specs.declared.views.View.{View}
@@ -47,6 +48,7 @@ use Rattle.watched.specs.Watched as watch
 use Rattle.watched.specs.Watched.{IsPlain, case_of, is_bare, known_of, least_broken}
 use Rattle.watched.proofs.ForgetLemmas.{observe-forget, view_in-forget}
 use Rattle.watched.proofs.RefusalLemmas.{not_refused, refused_among, refused_first}
+use Rattle.watched.proofs.UntrueLemmas.{untrue-forget}
 use Rattle.watched.proofs.WaitLemmas.{same_forget, waits_same}
 
 abbrev model_after : Progress → ℕ → Step tcp_shape → Progress
@@ -115,7 +117,9 @@ rules-forget h moment k step =
     (refused-forget h moment k step)
     ∙ ap (λ (rs : List (Rule × Bool)). with_refusal (refused_by h moment k step) rs ++ watch_rules h moment (forget k) step)
     (step_rules-forget h moment k.model step)
-    ∙ ap (λ (s : Observation). model_rules h moment k step ++ judged_rules h moment k.duties s) (observe-forget h moment k.model step)
+    ∙ ap (λ (b : Bool). model_rules h moment k step ++ judged_rules h moment k.duties b (observe h moment (forgetting.forget k.model) step))
+    (untrue-forget h k step)
+    ∙ ap (λ (s : Observation). model_rules h moment k step ++ judged_rules h moment k.duties (untrue_at h k step) s) (observe-forget h moment k.model step)
 
 -- if no rule is broken, nothing is refused, and the model permits the step
 pub not_refused_by : (h : Header) (moment : ℕ) (k : Known) (step : Step tcp_shape) → first_broken (model_rules h moment k step) ≡ None
@@ -203,26 +207,29 @@ module _ (p : Progress) (fs : Flights) (d : Duties) (moment : ℕ) (step : Step 
   seen = observe p.header moment p.world step
 
   -- what was judged: the rules of duties at what they watch of that step
-  judged_later : (u : Progress) (s : Observation) → u ≡ model_after p moment step → s ≡ seen
-      → first_broken (judged_rules u.header moment d s) ≡ first_broken (watch_rules p.header moment known step)
-  judged_later u s is sees =
-      ap (λ (u : Progress). first_broken (judged_rules u.header moment d s)) is
-      ∙ ap (λ (s : Observation). first_broken (judged_rules p.header moment d s)) sees
+  judged_later : (u : Progress) (untrue : Bool) (s : Observation) → untrue ≡ untrue_at p.header known step → u ≡ model_after p moment step → s ≡ seen
+      → first_broken (judged_rules u.header moment d untrue s) ≡ first_broken (watch_rules p.header moment known step)
+  judged_later u untrue s asks is sees =
+      ap (λ (b : Bool). first_broken (judged_rules u.header moment d b s)) asks
+      ∙ (ap (λ (u : Progress). first_broken (judged_rules u.header moment d (untrue_at p.header known step) s)) is
+      ∙ ap (λ (s : Observation). first_broken (judged_rules p.header moment d (untrue_at p.header known step) s)) sees)
 
-  pub step_admits : {A : Type 0} (r : Result A StepFault) (u : Progress) (s : Observation) (refusal : Option Rule)
-      → refusal ≡ refused_by p.header moment known step → refusal ≡ None → first_broken model ≡ None → u ≡ model_after p moment step → s ≡ seen
-      → OnOk r (first_broken (judged_rules u.header moment d s) ≡ None) → OnOk r (broken_by (case_of p fs d) moment step ≡ None)
-  step_admits r u s refusal refused none may is sees e =
+  pub step_admits : {A : Type 0} (r : Result A StepFault) (u : Progress) (untrue : Bool) (s : Observation) (refusal : Option Rule)
+      → untrue ≡ untrue_at p.header known step → refusal ≡ refused_by p.header moment known step → refusal ≡ None → first_broken model ≡ None → u ≡ model_after p moment step → s ≡ seen
+      → OnOk r (first_broken (judged_rules u.header moment d untrue s) ≡ None) → OnOk r (broken_by (case_of p fs d) moment step ≡ None)
+  step_admits r u untrue s refusal asks refused none may is sees e =
       duty_admits r (model_rules p.header moment known step) (watch_rules p.header moment known step)
-      (first_broken (judged_rules u.header moment d s)) (fine_by p.header moment known step (sym refused ∙ none) may) (judged_later u s is sees) e
+      (first_broken (judged_rules u.header moment d untrue s)) (fine_by p.header moment known step (sym refused ∙ none) may)
+      (judged_later u untrue s asks is sees) e
 
-  pub step_breaks : {A : Type 0} (r : Result A StepFault) (u : Progress) (s : Observation) (refusal : Option Rule)
-      → refusal ≡ refused_by p.header moment known step → refusal ≡ None → first_broken model ≡ None → u ≡ model_after p moment step → s ≡ seen
-      → IfErr r (λ fault. IfBroken fault (λ rule. first_broken (judged_rules u.header moment d s) ≡ Some rule))
+  pub step_breaks : {A : Type 0} (r : Result A StepFault) (u : Progress) (untrue : Bool) (s : Observation) (refusal : Option Rule)
+      → untrue ≡ untrue_at p.header known step → refusal ≡ refused_by p.header moment known step → refusal ≡ None → first_broken model ≡ None → u ≡ model_after p moment step → s ≡ seen
+      → IfErr r (λ fault. IfBroken fault (λ rule. first_broken (judged_rules u.header moment d untrue s) ≡ Some rule))
       → IfErr r (λ fault. IfBroken fault (λ rule. broken_by (case_of p fs d) moment step ≡ Some rule))
-  step_breaks r u s refusal refused none may is sees e =
+  step_breaks r u untrue s refusal asks refused none may is sees e =
       duty_breaks r (model_rules p.header moment known step) (watch_rules p.header moment known step)
-      (first_broken (judged_rules u.header moment d s)) (fine_by p.header moment known step (sym refused ∙ none) may) (judged_later u s is sees) e
+      (first_broken (judged_rules u.header moment d untrue s)) (fine_by p.header moment known step (sym refused ∙ none) may)
+      (judged_later u untrue s asks is sees) e
 
   -- the case after a step that was noted
   pub step_is : {A : Type 0} (r : Result A StepFault) (u : Progress) (s : Observation) (gs : Flights) (e : Duties)
@@ -274,10 +281,10 @@ module _ (p : Progress) (fs : Flights) (d : Duties) (moment : ℕ) (step : Step 
 -- ---- in versions 1 to 5, without a slack or of a step that shows nothing
 
 -- nothing is broken if nothing is seen
-unseen_rules : (h : Header) (moment : ℕ) (d : Duties) → first_broken (judged_rules h moment d unseen) ≡ None
+unseen_rules : (h : Header) (moment : ℕ) (d : Duties) → first_broken (judged_rules h moment d false unseen) ≡ None
 unseen_rules h moment d = by h.slack
   where
-    by : (o : Option ℕ) → first_broken (on o [] (λ slack. duty_rules h slack moment d unseen)) ≡ None
+    by : (o : Option ℕ) → first_broken (on o ((rules.SackUntrue, false) ∷ []) (λ slack. duty_rules h slack moment d false unseen)) ≡ None
     by None = refl
     by (Some slack) = refl
 
@@ -297,11 +304,11 @@ abbrev NothingSeen : Header → Option (Step tcp_shape) → Type 0
 NothingSeen h asked = (h.slack ≡ None) ⊎ ((moment : ℕ) (w : World tcp_shape) → option_map_or (observe h moment w) asked unseen ≡ unseen)
 
 nothing_judged : (h : Header) (moment : ℕ) (w : World tcp_shape) (d : Duties) (step : Step tcp_shape) → NothingSeen h (Some step)
-    → first_broken (judged_rules h moment d (observe h moment w step)) ≡ None
+    → first_broken (judged_rules h moment d false (observe h moment w step)) ≡ None
 nothing_judged h moment w d step (inl any) =
-    ap (λ (o : Option ℕ). first_broken (on o [] (λ slack. duty_rules h slack moment d (observe h moment w step)))) any
+    ap (λ (o : Option ℕ). first_broken (on o ((rules.SackUntrue, false) ∷ []) (λ slack. duty_rules h slack moment d false (observe h moment w step)))) any
 nothing_judged h moment w d step (inr sees) =
-    ap (λ (s : Observation). first_broken (judged_rules h moment d s)) (sees moment w) ∙ unseen_rules h moment d
+    ap (λ (s : Observation). first_broken (judged_rules h moment d false s)) (sees moment w) ∙ unseen_rules h moment d
 
 nothing_kept : (h : Header) (moment : ℕ) (w now : World tcp_shape) (d : Duties) (step : Step tcp_shape) → NothingSeen h (Some step)
     → noted_by h moment now (observe h moment w step) d ≡ d
@@ -325,7 +332,10 @@ plain_rules p fs d moment (Some step) is =
     let model = step_rules (tcp p.header) moment p.world step in
     ap (λ (o : Option Rule). first_broken (with_refusal o model ++ watch_rules p.header moment (known_of p fs d) step))
     (refused_unjudged p.header moment (known_of p fs d) step (not_judging p.header is.0))
-    ∙ first_broken-then_none model (watch_rules p.header moment (known_of p fs d) step) (nothing_judged p.header moment p.world d step is.1)
+    ∙ first_broken-then_none model (watch_rules p.header moment (known_of p fs d) step)
+    (ap (λ (b : Bool). first_broken (judged_rules p.header moment d b (observe p.header moment p.world step)))
+    (unasked p.header (known_of p fs d) step is.0)
+    ∙ nothing_judged p.header moment p.world d step is.1)
 
 pub plain_line_admits : {A : Type 0} (r : Result A StepFault) (p : Progress) (fs : Flights) (d : Duties) (moment : ℕ) (asked : Option (Step tcp_shape))
     → IsPlain p.header asked

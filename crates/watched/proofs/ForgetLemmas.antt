@@ -60,6 +60,7 @@ use Rattle.spec_duties.specs.declared.observations.Queueing.{Queueing}
 use Rattle.spec_duties.specs.declared.observations.Queueing.TheVariants as queueing
 use Rattle.spec_duties.specs.declared.observations.Observation.{Observation}
 use Rattle.spec_duties.specs.declared.observations.TouchedEndpoint.{TouchedEndpoint}
+use Rattle.watched.proofs.UntrueLemmas.{kept-forget}
 use Rattle.watched.proofs.WaitLemmas.{any_same, opening_same, same_forget}
 
 pub view-forget : (e : Endpoint) → view_of (forget_endpoint e) ≡ view_of e
@@ -191,6 +192,7 @@ host_step-seen h moment w fresh host s (network.Takes line how) = by (waiting li
           earning-forget h m (taker s.body m),
           syn-forget h.version m (taker s.body m),
           blocks-forget h m (taker s.body m),
+          kept-forget h how m (taker s.body m),
         ) refl
 host_step-seen h moment w fresh host s (network.Drops line) =
     rw (taking-forget h moment w host line, answering-forget h w host line) (by (waiting line s.inbox))

@@ -42,6 +42,7 @@ use Rattle.spec_duties.specs.declared.views.View.{View}
 use Rattle.spec_flights.specs.Delivered.{read_reports, without_reports}
 use Rattle.spec_flights.specs.Flights.{Flight, Flights, board_after, broken_at, flight_after, flight_at, flight_by, flights_touched, may_begin, goes_again}
 use Rattle.spec_flights.specs.Flights.{marks_oldest, may_be_probed, may_go_again, number_built, refusal, rescued_after}
+use Rattle.spec_flights.specs.Held.{held_after}
 use Rattle.spec_flights.specs.Marks.{marked_by, marked_by_event, marks_after, old_part, taken_by}
 use Rattle.spec_flights.specs.Probing.{is_early_probe, probe_before, probing_after}
 use Rattle.spec_flights.specs.declared.probing.Probe.{Probe}
@@ -228,7 +229,15 @@ flight_same moment clock s t a b after f =
     held = board_after moment clock recovers number t.event t.before after reports f.board
 
     with : List ℕ → Scoreboard → Bool → Probing → Flight
-    with ms x used p = record { sides = sides; recovery = now; marks = ms; board = x; rescued = used; probing = p }
+    with ms x used p = record {
+      sides = sides;
+      recovery = now;
+      marks = ms;
+      board = x;
+      rescued = used;
+      probing = p;
+      held = held_after s.kept after.rcv_nxt f.held;
+    }
 
 broken_same : (repeats : Bool) (clock : ℕ) (event : Event) (a : ℕ) (v : View) (f : Flight)
     → broken_at repeats clock event (view_with a v) f ≡ broken_at repeats clock event v f

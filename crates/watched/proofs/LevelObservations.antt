@@ -51,6 +51,7 @@ use Rattle.spec_tcp_laws.proofs.JudgedWorlds.{aim_same, may_judge}
 use Rattle.spec_duties.specs.Dropped.{answering_breaks, bare, discards_at, droppable_by, earns_by_dropping, earns_by_taking, is_old, taking_breaks}
 use Rattle.spec_duties.specs.Sampling.{sampling_at}
 use Rattle.spec_duties.specs.Blocks.{blocks_taken}
+use Rattle.spec_duties.specs.Kept.{kept_at}
 use Rattle.spec_duties.specs.Observations.{syn_dropped, syn_sent, syn_taken}
 use Rattle.spec_duties.specs.Observations.{observe_accept, accepting, at_drop, at_next, at_place, at_ports, at_sender, at_target, observe_call, observe_close}
 use Rattle.spec_duties.specs.Observations.{observe_host_step, observe_dropping, observe_effect, is_done, on_target, observe_opened, observe_other}
@@ -225,6 +226,11 @@ blocks_same p v m Nobody = refl
 blocks_same p v m (AtListener l) = refl
 blocks_same p v m (AtEndpoint i e) = refl
 
+kept_same : (p : Profile) (v : Version) (how : TakeChoice) (m : Emission) (t : Taker) → kept_at v how m (taker_by p t) ≡ kept_at v how m t
+kept_same p v how m Nobody = refl
+kept_same p v how m (AtListener l) = refl
+kept_same p v how m (AtEndpoint i e) = refl
+
 syn_drop_same : (p : Profile) (v : Version) (m : Emission) (t : Taker) → syn_dropped v m (taker_by p t) ≡ syn_dropped v m t
 syn_drop_same p v m Nobody = refl
 syn_drop_same p v m (AtListener l) = refl
@@ -289,6 +295,7 @@ host_step_seen p j h moment w fresh host s (network.Takes line how) may = by (wa
           earning_same p h m (taker s.body m),
           syn_same p h.version m (taker s.body m),
           blocks_same p h.version m (taker s.body m),
+          kept_same p h.version how m (taker s.body m),
         )
         (shown (see s.body m (taker s.body m)) _ (target_seen p host s.body m (taker s.body m) may))
 host_step_seen p j h moment w fresh host s (network.Drops line) may =

@@ -28,7 +28,7 @@ use Rattle.spec_tcp_laws.proofs.LevelLemmas.{step_alike}
 use Rattle.duties.proofs.SlackLemmas.{AreFewer, fewer_none}
 use Rattle.spec_duties.specs.Answering.{Waits, any_call, is_unanswered_late, waits_after}
 use Rattle.spec_duties.specs.declared.answering.CallChange.{CallChange}
-use Rattle.spec_cases.specs.Cases.{Dutiful, Known, flown, judged_rules, known_after, known_after_all, late_at_end, model_rules, noted_by, watch_rules}
+use Rattle.spec_cases.specs.Cases.{Dutiful, Known, flown, judged_rules, known_after, known_after_all, late_at_end, model_rules, noted_by, untrue_at, watch_rules}
 use Rattle.spec_duties.specs.End.{any_unsent, either, first_waiting, is_brought_late, is_send_late, lates_at, lates_from, lates_of_all, lates_of_host, line_of}
 use Rattle.spec_duties.specs.declared.events.Event.{Event}
 use Rattle.spec_duties.specs.declared.events.Event.TheVariants.{Builds, Calls, Drops, Expires, Opens, Processes, Recovers, Sends}
@@ -54,6 +54,7 @@ use Rattle.spec_flights.specs.Flights.{Flights}
 use Rattle.watched.specs.Levels.{CaseJudgedAlike, EndsBelow, known_judged, observed_with, remaining, touched_with, view_with}
 use Rattle.watched.proofs.LevelFlights.{flown_same, model_alike, refused_less, remaining_both, repeats_less}
 use Rattle.watched.proofs.LevelObservations.{shows_the_same, view_seen}
+use Rattle.watched.proofs.UntrueLemmas.{untrue_judged}
 use Rattle.watched.proofs.WaitLemmas.{any_same, same_by, waits_alike, waits_same}
 
 -- ---- what is kept doesn't depend on the edge
@@ -241,14 +242,15 @@ judged_by : (gate a b : Bool) → (a ≡ false → b ≡ false) → (gate && a) 
 judged_by true a b less e = less e
 judged_by false a b less e = refl
 
-touched_fewer : (j : Judged) (h : Header) (slack moment : ℕ) (d : Duties) (counts : Bool) (sent : Option Unsent) (s : Sampling) (edge : ℕ)
+touched_fewer : (j : Judged) (h : Header) (slack moment : ℕ) (d : Duties) (counts untrue : Bool) (sent : Option Unsent) (s : Sampling) (edge : ℕ)
     (change : CallChange) (o : Option TouchedEndpoint)
     → extent j ≤ extent h.congestion
     → EndsBelow edge o
-    → AreFewer (on o (answer_rules slack moment d change) (touched_rules h slack moment d counts sent s))
-    (on (option_map (touched_with edge) o) (answer_rules slack moment d change) (touched_rules (header_by j h) slack moment d counts sent s))
-touched_fewer j h slack moment d counts sent s edge change None le higher = (λ e. e, tt)
-touched_fewer j h slack moment d counts sent s edge change (Some t) le higher = (
+    → AreFewer (on o (answer_rules slack moment d untrue change) (touched_rules h slack moment d counts untrue sent s))
+    (on (option_map (touched_with edge) o) (answer_rules slack moment d untrue change)
+    (touched_rules (header_by j h) slack moment d counts untrue sent s))
+touched_fewer j h slack moment d counts untrue sent s edge change None le higher = (λ e. e, (λ e. e, tt))
+touched_fewer j h slack moment d counts untrue sent s edge change (Some t) le higher = (
   λ e. e,
   (
     λ e. e,
@@ -264,7 +266,7 @@ touched_fewer j h slack moment d counts sent s edge change (Some t) le higher = 
               judged_by (not (says_sender h.version)) _ _ (resent_less j h.congestion edge t.event t.before _ le),
               (
                 judged_by (not (says_sender h.version)) _ _ (beyond_less j h.congestion edge t.event t.before le higher),
-                (λ e. e, (λ e. e, tt)),
+                (λ e. e, (λ e. e, (λ e. e, tt))),
               ),
             ),
           ),
@@ -274,13 +276,13 @@ touched_fewer j h slack moment d counts sent s edge change (Some t) le higher = 
   ),
 )
 
-rules_fewer : (j : Judged) (h : Header) (moment : ℕ) (d : Duties) (edge : ℕ) (s : Observation) (slack : Option ℕ) → extent j ≤ extent h.congestion
-    → EndsBelow edge s.touched
-    → first_broken (on slack [] (λ slack. duty_rules h slack moment d s)) ≡ None
-    → first_broken (on slack [] (λ slack. duty_rules (header_by j h) slack moment d (observed_with edge s))) ≡ None
-rules_fewer j h moment d edge s None le higher e = refl
-rules_fewer j h moment d edge s (Some slack) le higher e =
-    fewer_none (duty_rules h slack moment d s) (duty_rules (header_by j h) slack moment d (observed_with edge s)) (
+rules_fewer : (j : Judged) (h : Header) (moment : ℕ) (d : Duties) (edge : ℕ) (untrue : Bool) (s : Observation) (slack : Option ℕ)
+    → extent j ≤ extent h.congestion → EndsBelow edge s.touched
+    → first_broken (on slack ((rules.SackUntrue, untrue) ∷ []) (λ slack. duty_rules h slack moment d untrue s)) ≡ None
+    → first_broken (on slack ((rules.SackUntrue, untrue) ∷ []) (λ slack. duty_rules (header_by j h) slack moment d untrue (observed_with edge s))) ≡ None
+rules_fewer j h moment d edge untrue s None le higher e = e
+rules_fewer j h moment d edge untrue s (Some slack) le higher e =
+    fewer_none (duty_rules h slack moment d untrue s) (duty_rules (header_by j h) slack moment d untrue (observed_with edge s)) (
       λ e. e,
       (
         λ e. e,
@@ -288,7 +290,7 @@ rules_fewer j h moment d edge s (Some slack) le higher e =
           λ e. e,
           (
             λ e. e,
-            touched_fewer j h slack moment d (counts_now (built_by d s.built_change))
+            touched_fewer j h slack moment d (counts_now (built_by d s.built_change)) untrue
                 (sent_by d s.built_change) s.sampling edge s.call_change s.touched le higher,
           ),
         ),
@@ -301,8 +303,10 @@ watch_passes : (j : Judged) (h : Header) (moment : ℕ) (k : Known) (step : Step
     → first_broken (watch_rules h moment k step) ≡ None → first_broken (watch_rules (header_by j h) moment (known_judged j h k) step) ≡ None
 watch_passes j h moment k step le is e =
     let seen = shows_the_same j h moment k.model step le is in
-    ap (λ (s : Observation). first_broken (judged_rules (header_by j h) moment k.duties s)) seen.1
-    ∙ rules_fewer j h moment k.duties seen.0 (observe h moment k.model step) h.slack le seen.2 e
+    ap (λ (b : Bool). first_broken (judged_rules (header_by j h) moment k.duties b (observe (header_by j h) moment (world_judged j h k.model) step)))
+    (untrue_judged j h k step)
+    ∙ ap (λ (s : Observation). first_broken (judged_rules (header_by j h) moment k.duties (untrue_at h k step) s)) seen.1
+    ∙ rules_fewer j h moment k.duties seen.0 (untrue_at h k step) (observe h moment k.model step) h.slack le seen.2 e
 
 -- of the other rules, it breaks the same
 others_both : (xs ys : List (Rule × Bool)) → other_rules (xs ++ ys) ≡ other_rules xs ++ other_rules ys
@@ -315,16 +319,16 @@ others_both ((r, b) ∷ xs) ys = by (is_of_level r) (others_both xs ys)
     by true rest = rest
     by false rest = ap (λ (zs : List (Rule × Bool)). (r, b) ∷ zs) rest
 
-duties_alike : (j : Judged) (h : Header) (moment : ℕ) (d : Duties) (edge : ℕ) (s : Observation)
-    → other_rules (judged_rules (header_by j h) moment d (observed_with edge s)) ≡ other_rules (judged_rules h moment d s)
-duties_alike j h moment d edge s = by h.slack s.touched
+duties_alike : (j : Judged) (h : Header) (moment : ℕ) (d : Duties) (edge : ℕ) (untrue : Bool) (s : Observation)
+    → other_rules (judged_rules (header_by j h) moment d untrue (observed_with edge s)) ≡ other_rules (judged_rules h moment d untrue s)
+duties_alike j h moment d edge untrue s = by h.slack s.touched
   where
     with : Option TouchedEndpoint → Observation
     with o = record s { touched = o }
 
     by : (slack : Option ℕ) (o : Option TouchedEndpoint)
-        → other_rules (on slack [] (λ slack. duty_rules (header_by j h) slack moment d (observed_with edge (with o))))
-        ≡ other_rules (on slack [] (λ slack. duty_rules h slack moment d (with o)))
+        → other_rules (on slack ((rules.SackUntrue, untrue) ∷ []) (λ slack. duty_rules (header_by j h) slack moment d untrue (observed_with edge (with o))))
+        ≡ other_rules (on slack ((rules.SackUntrue, untrue) ∷ []) (λ slack. duty_rules h slack moment d untrue (with o)))
     by None o = refl
     by (Some slack) None = refl
     by (Some slack) (Some t) = refl
@@ -339,8 +343,10 @@ case_alike j h moment k step le is =
     ∙ ap (λ (xs : List (Rule × Bool)). xs ++ remaining h.version (other_rules (watch_rules (header_by j h) moment (known_judged j h k) step)))
     (model_alike j h moment k step le is (step_alike (profile_of (header_by j h)) j h moment k.model step))
     ∙ ap (λ (xs : List (Rule × Bool)). remaining h.version (other_rules (model_rules h moment k step)) ++ remaining h.version xs)
-    (ap (λ (s : Observation). other_rules (judged_rules (header_by j h) moment k.duties s)) seen.1
-    ∙ duties_alike j h moment k.duties seen.0 (observe h moment k.model step))
+    (ap (λ (b : Bool). other_rules (judged_rules (header_by j h) moment k.duties b (observe (header_by j h) moment (world_judged j h k.model) step)))
+    (untrue_judged j h k step)
+    ∙ ap (λ (s : Observation). other_rules (judged_rules (header_by j h) moment k.duties (untrue_at h k step) s)) seen.1
+    ∙ duties_alike j h moment k.duties seen.0 (untrue_at h k step) (observe h moment k.model step))
     ∙ sym (remaining_both h.version (other_rules (model_rules h moment k step)) (other_rules (watch_rules h moment k step)))
     ∙ sym (ap (remaining h.version) (others_both (model_rules h moment k step) (watch_rules h moment k step)))
 

@@ -3,6 +3,7 @@ mod BlockLemmas
 mod CallLemmas
 pub mod CaseLemmas
 mod EndLemmas
+pub mod UntrueLemmas
 pub mod ForgetLemmas
 mod PlaceLemmas
 pub mod RefusalLemmas

@@ -1,16 +1,18 @@
 -- Runs of a case with a greater slack: no more is refused, and the same is kept but for credits, of which no less are left.
-use Rattle.std.proofs.Common.{◌≡◌, ℕ, ◌≤◌, List, [], ◌∷◌, Option, None, Some, refl, ap, sym, subst, ◌∙◌, arith}
+use Rattle.std.proofs.Common.{◌≡◌, ℕ, ◌≤◌, Bool, ◌&&◌, List, [], ◌∷◌, Option, None, Some, refl, ap, sym, subst, ◌∙◌, arith}
 use Rattle.case_forms.specs.declared.calls.Host.{Host}
 use Rattle.case_forms.specs.declared.calls.Host.TheVariants.{Zero, One}
 use Rattle.case_forms.specs.declared.trace.Header.{Header}
+use Rattle.case_forms.specs.Versions.{says_sender}
 use Rattle.verdict.specs.Rules.{first_broken}
+use Rattle.verdict.specs.declared.rule.Rule.TheVariants as rules
 use Rattle.spec_network.specs.HostSteps.{Lawful, after}
 use Rattle.spec_network.specs.Hosts.{HostStep, Stamped, Step, World, Does, Expires, Makes, Sends, Gets, Hears, Takes, Drops, Answers, Begin, Finish, Effect, At}
 use Rattle.spec_network.specs.Tables.{pick}
 use Rattle.spec_tcp.specs.Machine.{tcp, tcp_shape}
-use Rattle.duties.proofs.SlackLemmas.{late_any, less_late, nothing_judged, slack_is_hardly_noted}
+use Rattle.duties.proofs.SlackLemmas.{late_any, less_late, nothing_judged, slack_is_hardly_noted, truly_reported}
 use Rattle.spec_cases.specs.Cases.{Dutiful, Known, first_known, flown, judged_rules, known_after, known_after_all, late_at_end, noted_by, refused_at}
-use Rattle.spec_cases.specs.Cases.{refused_by, watch_rules}
+use Rattle.spec_cases.specs.Cases.{refused_by, untrue_at, untrue_by, untrue_sent, watch_rules}
 use Rattle.spec_flights.specs.Flights.{Flights, refusal}
 use Rattle.spec_duties.specs.Observations.{observe}
 use Rattle.spec_cases.specs.Slack.{AreInOrder, AtMost, HasMoreCredits, credits_left, with_slack}
@@ -76,6 +78,25 @@ module _ (x y : Option ℕ) (h : Header) where
       at (Drops line) = refl
       at (Answers line) = refl
 
+  untrue_too : (few many : Known) (step : Step tcp_shape) → IsSame few many → untrue_at two many step ≡ untrue_at one few step
+  untrue_too few many (Begin line t call) same = refl
+  untrue_too few many (Finish line t answer) same = refl
+  untrue_too few many (Effect t answer) same = refl
+  untrue_too few many (At host d) same = ap (λ (b : Bool). says_sender h.version && b) (at d)
+    where
+      at : (d : HostStep tcp_shape) → untrue_by many host d ≡ untrue_by few host d
+      at (Sends line number wire) =
+          ap (λ (w : World tcp_shape). untrue_sent many.flights host (pick w.hosts host) number wire) same.model
+          ∙ ap (λ (fs : Flights). untrue_sent fs host (pick few.model.hosts host) number wire) same.flights
+      at (Does x) = refl
+      at (Makes m) = refl
+      at (Expires line x) = refl
+      at (Gets line copied wire) = refl
+      at (Hears line wire) = refl
+      at (Takes line how) = refl
+      at (Drops line) = refl
+      at (Answers line) = refl
+
   same_after : (moment : ℕ) (few many : Known) (step : Step tcp_shape) → IsSame few many
       → IsSame (known_after one moment few step) (known_after two moment many step)
   same_after moment few many step same = record {
@@ -92,7 +113,14 @@ dutiful_none : (x : Option ℕ) (h : Header) (few many : Known) (xs : List (Stam
 dutiful_none x h few many [] same kept = tt
 dutiful_none x h few many (s ∷ xs) same kept = (
   record {
-    duties = ap first_broken (nothing_judged (with_slack None h) s.moment many.duties (observe (with_slack None h) s.moment many.model s.step) refl);
+    duties =
+        ap first_broken
+        (nothing_judged (with_slack None h) s.moment many.duties (untrue_at (with_slack None h) many s.step)
+        (observe (with_slack None h) s.moment many.model s.step) refl)
+        ∙ ap (λ (b : Bool). first_broken ((rules.SackUntrue, b) ∷ []))
+        (untrue_too x None h few many s.step same
+        ∙ truly_reported (with_slack x h) s.moment few.duties (untrue_at (with_slack x h) few s.step)
+        (observe (with_slack x h) s.moment few.model s.step) kept.0.duties);
     flights = refused x None h s.moment few many s.step same ∙ kept.0.flights;
   },
   dutiful_none x h (known_after (with_slack x h) s.moment few s.step) (known_after (with_slack None h) s.moment many s.step) xs
@@ -115,8 +143,11 @@ module _ (less more : ℕ) (le : less ≤ more) (h : Header) where
   watch_passes : (moment : ℕ) (few many : Known) (step : Step tcp_shape) → IsAlike few many → first_broken (watch_rules a moment few step) ≡ None
       → first_broken (watch_rules b moment many step) ≡ None
   watch_passes moment few many step alike e =
-      ap (λ (s : Observation). first_broken (judged_rules b moment many.duties s)) (seen (Some less) (Some more) h moment few many step alike.same)
-      ∙ (less_late (Some less) (Some more) le).steps h moment few.duties many.duties (observe a moment few.model step) alike.duties e
+      ap (λ (s : Observation). first_broken (judged_rules b moment many.duties (untrue_at b many step) s))
+      (seen (Some less) (Some more) h moment few many step alike.same)
+      ∙ ap (λ (x : Bool). first_broken (judged_rules b moment many.duties x (observe a moment few.model step)))
+      (untrue_too (Some less) (Some more) h few many step alike.same)
+      ∙ (less_late (Some less) (Some more) le).steps h moment few.duties many.duties (untrue_at a few step) (observe a moment few.model step) alike.duties e
 
   known_alike : (moment : ℕ) (few many : Known) (step : Step tcp_shape) → IsAlike few many → first_broken (watch_rules a moment few step) ≡ None
       → IsAlike (known_after a moment few step) (known_after b moment many step)
@@ -125,7 +156,8 @@ module _ (less more : ℕ) (le : less ≤ more) (h : Header) where
     duties =
         subst (λ (d : Duties). HasMoreCredits (noted_by a moment (after (tcp a) moment few.model step) (observe a moment few.model step) few.duties) d)
         (sym noted)
-        (slack_is_hardly_noted h less more moment (after (tcp a) moment few.model step) (observe a moment few.model step) few.duties many.duties le
+        (slack_is_hardly_noted h less more moment (after (tcp a) moment few.model step) (untrue_at a few step) (observe a moment few.model step) few.duties
+        many.duties le
         alike.duties e);
   }
     where

@@ -86,8 +86,9 @@ fn blocks_of(near: u64, top: u64, iss: Word, bytes: &[u8]) -> Blocks
     }
 }
 
+/// Whether version 6 asks what a segment reports that an endpoint processes, and what the endpoint keeps of it.
 #[inline(always)]
-fn reads_blocks(version: Version, endpoint: &Endpoint, m: &Emission) -> bool
+pub(crate) fn reads_blocks(version: Version, endpoint: &Endpoint, m: &Emission) -> bool
     ensures { result ≡ reads_blocks version endpoint.now m.now }
 {
     version.says_sender() && !m.flags.rst && !endpoint.state.is_syn_sent()

@@ -1,7 +1,7 @@
 //! The model of a case with its duties.
 //! `lib.rt` says why functions here are inlined.
 
-ghost use Rattle.std.specs.Prelude.{◌≡◌, ◌<◌, ◌≤◌, IsTrue, Some, None, OnOk, IfErr};
+ghost use Rattle.std.specs.Prelude.{◌≡◌, ◌<◌, ◌≤◌, false, ◌∷◌, [], IsTrue, Some, None, OnOk, IfErr};
 ghost use Rattle.case_forms.specs.declared.named_line.Extras.{Extras};
 ghost use Rattle.verdict.specs.Rules.{first_broken};
 ghost use Rattle.spec_step.specs.Acts.{IsSmall, step_hidden};
@@ -10,13 +10,15 @@ ghost use Rattle.spec_step.specs.Faults.{IfBroken};
 ghost use Rattle.spec_tcp.specs.Bounds.{most_steps};
 ghost use Rattle.spec_cases.specs.Cases.{after, asked_after, asked_rules, broken_by, judged_rules, late_at_end};
 ghost use Rattle.spec_cases.specs.Cases.{noted_by, refused_by, with_waits};
-ghost use Rattle.spec_cases.specs.Cases.{start};
+ghost use Rattle.spec_cases.specs.Cases.{start, untrue_at};
+ghost use Rattle.verdict.specs.declared.rule.Rule.TheVariants as rules;
 ghost use Rattle.spec_duties.specs.Observations.{observe};
 ghost use Rattle.spec_duties.specs.Observations as views;
 ghost use Rattle.watched.specs.Watched.{IsPlain, case_of, is_bare, known_of, with_refusal};
 
 use crate::calls::observe_effect;
 use crate::case_end;
+use crate::kept::untrue_sent;
 use crate::observations::{
     observe_hidden, observe_line, observe_making, observe_sending, observe_taking, view_in,
 };
@@ -135,26 +137,42 @@ fn note_waits_if(
     }
 }
 
+// Whether a step sends no selective acknowledgment that isn't true.
+#[inline(always)]
+fn admits_truth(untrue: bool) -> Result<(), StepFault>
+    ensures ok { OnOk result (first_broken ((rules.SackUntrue, untrue) ∷ []) ≡ None) }
+    ensures broken { IfErr result (λ fault. IfBroken fault
+        (λ rule. first_broken ((rules.SackUntrue, untrue) ∷ []) ≡ Some rule)) }
+{
+    if untrue {
+        Err(StepFault::Broken(Rule::SackUntrue))
+    } else {
+        Ok(())
+    }
+}
+
 // Judges a step that the model did, and notes it if no duty refuses it; its endpoint is then seen like this.
 #[inline(always)]
 fn watch(
     world: &World,
     duties: &mut Duties,
     moment: u64,
+    untrue: bool,
     seen: &Observation,
     after: &View,
 ) -> Result<(), StepFault>
     requires { after.now ≡ views.view_in world.now.world seen.now.touched }
     ensures ok { OnOk result
         (duties.new ≡ noted_by world.now.header moment world.now.world seen.now duties.old) }
-    ensures admitted { OnOk result (first_broken (judged_rules world.now.header moment duties.old seen.now) ≡ None) }
+    ensures admitted { OnOk result
+        (first_broken (judged_rules world.now.header moment duties.old untrue seen.now) ≡ None) }
     ensures broken { IfErr result (λ fault. IfBroken fault
-        (λ rule. first_broken (judged_rules world.now.header moment duties.old seen.now) ≡ Some rule)) }
+        (λ rule. first_broken (judged_rules world.now.header moment duties.old untrue seen.now) ≡ Some rule)) }
 {
     let Some(slack) = judged_slack(world.header()) else {
-        return Ok(());
+        return admits_truth(untrue);
     };
-    duties.admits(world.header(), slack, moment, seen)?;
+    duties.admits(world.header(), slack, moment, untrue, seen)?;
     let strict = world.header().version.says_sender();
     duties.note(strict, slack, moment, seen, after)?;
     note_waits_if(strict, world, duties, moment, seen)?;
@@ -183,6 +201,25 @@ fn with_refusal(done: Result<(), StepFault>, refusal: Option<Rule>) -> Result<()
     }
 }
 
+// What is known of a step by what is kept of data in flight: the rule that it breaks, and whether it sends a selective
+// acknowledgment that isn't true.
+#[derive(Clone, Copy)]
+struct Flown {
+    refusal: Option<Rule>,
+    untrue: bool,
+}
+
+// The same of a step that sends nothing.
+#[inline(always)]
+fn refused(refusal: Option<Rule>) -> Flown
+    ensures { result ≡ record { refusal = refusal; untrue = false } }
+{
+    Flown {
+        refusal,
+        untrue: false,
+    }
+}
+
 // Does a step in the world, and for what is kept beside it, which sees this of it. It is inlined for each kind of step,
 // so that only what this kind shows is compared.
 #[inline(always)]
@@ -193,13 +230,15 @@ fn watch_step<S: ModelStep>(
     moment: u64,
     step: S,
     seen: &Observation,
-    refusal: Option<Rule>,
+    flown: Flown,
 ) -> Result<(), StepFault>
     requires steps { world.old.steps < most_steps }
     requires small { S.is_small step }
     requires seen { seen.now ≡ observe world.old.header moment world.old.world (S.step step) }
-    requires refused { refusal
+    requires refused { flown.refusal
         ≡ refused_by world.old.header moment (known_of world.old flights.old duties.old) (S.step step) }
+    requires untrue { flown.untrue
+        ≡ untrue_at world.old.header (known_of world.old flights.old duties.old) (S.step step) }
     ensures ok { OnOk result (case_of world.new flights.new duties.new
         ≡ after (case_of world.old flights.old duties.old) moment (S.step step)) }
     ensures admitted { OnOk result
@@ -207,11 +246,11 @@ fn watch_step<S: ModelStep>(
     ensures broken { IfErr result (λ fault. IfBroken fault
         (λ rule. broken_by (case_of world.old flights.old duties.old) moment (S.step step) ≡ Some rule)) }
 {
-    match with_refusal(step.apply(world, moment), refusal) {
+    match with_refusal(step.apply(world, moment), flown.refusal) {
         Ok(()) => {
             let after = view_in(world, &seen.touched);
             flights.note(world.header(), moment, seen, &after)?;
-            watch(world, duties, moment, seen, &after)
+            watch(world, duties, moment, flown.untrue, seen, &after)
         }
         Err(fault) => Err(fault),
     }
@@ -274,7 +313,13 @@ fn judge_line(
             ..
         } => {
             let seen = observe_sending(world, *host, *made, wire);
-            watch_step(world, flights, duties, moment, taken, &seen, None)
+            let untrue = world.header().version.says_sender()
+                && untrue_sent(world, flights, *host, *made, wire);
+            let flown = Flown {
+                refusal: None,
+                untrue,
+            };
+            watch_step(world, flights, duties, moment, taken, &seen, flown)
         }
         TakenLine::Expired { .. } => {
             let seen = observe_line(world, moment, &taken);
@@ -286,7 +331,7 @@ fn judge_line(
         | TakenLine::Came { .. }
         | TakenLine::Heard { .. } => {
             let seen = observe_line(world, moment, &taken);
-            watch_step(world, flights, duties, moment, taken, &seen, None)
+            watch_step(world, flights, duties, moment, taken, &seen, refused(None))
         }
     }
 }
@@ -312,25 +357,25 @@ fn judge_hidden(
     match *step {
         Hidden::Effect { thread, answer } => {
             let seen = observe_effect(world, moment, thread, answer);
-            watch_step(world, flights, duties, moment, *step, &seen, None)
+            watch_step(world, flights, duties, moment, *step, &seen, refused(None))
         }
         Hidden::Build { host, plan } => {
             let seen = observe_making(world, host, plan, moment);
             let refusal = flights.refusal(world.header(), moment, &seen);
-            watch_step(world, flights, duties, moment, *step, &seen, refusal)
+            watch_step(world, flights, duties, moment, *step, &seen, refused(refusal))
         }
         Hidden::Process { host, line, choice } => {
             let seen = observe_taking(world, host, line, choice, moment);
-            watch_step(world, flights, duties, moment, *step, &seen, None)
+            watch_step(world, flights, duties, moment, *step, &seen, refused(None))
         }
         Hidden::Recover { .. } => {
             let seen = observe_hidden(world, moment, step);
             let refusal = flights.refusal(world.header(), moment, &seen);
-            watch_step(world, flights, duties, moment, *step, &seen, refusal)
+            watch_step(world, flights, duties, moment, *step, &seen, refused(refusal))
         }
         Hidden::Drop { .. } | Hidden::Reset { .. } => {
             let seen = observe_hidden(world, moment, step);
-            watch_step(world, flights, duties, moment, *step, &seen, None)
+            watch_step(world, flights, duties, moment, *step, &seen, refused(None))
         }
     }
 }

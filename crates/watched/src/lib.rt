@@ -8,7 +8,8 @@
 //! - `cases`: a case with its duties: each step, and the comparison at the end
 //! - `observations`: what a step shows of the world; `calls`: the same for the effect of a call; `dropped`: for a
 //!   segment that is dropped; `sampling`: whether a round trip is measured; `credits`: whether a credit is earned;
-//!   `syns`: what is done with a SYN; `blocks`: which positions a selective acknowledgment reports
+//!   `syns`: what is done with a SYN; `blocks`: which positions a selective acknowledgment reports;
+//!   `kept`: which ones an endpoint keeps, and whether what it sends reports others
 //! - `waiting`: calls that wait, and what is kept of them
 //! - `case_end`: what is late at the end; `laws`: what duties read of the world and of the header
 #![tactic(auto)]
@@ -19,6 +20,7 @@ mod case_end;
 mod cases;
 mod credits;
 mod dropped;
+mod kept;
 mod laws;
 mod observations;
 mod sampling;
@@ -27,6 +29,7 @@ mod waiting;
 
 pub use case_end::late_at_end;
 pub use cases::{Case, apply_hidden, take_line};
+pub use kept::untrue_at;
 pub use laws::{
     case_judged_alike, case_rules_ascend, less_judged_shows_the_same, nothing_discarded_is_seen,
     slack_is_not_read,

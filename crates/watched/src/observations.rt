@@ -24,6 +24,7 @@ use crate::credits::{earns_by_dropping, earns_by_taking};
 use crate::dropped::{
     admits_answering, admits_processing, discards_at, droppable_by, is_old, target_of,
 };
+use crate::kept::{kept_at, nothing_kept};
 use crate::sampling::sampling_at;
 use crate::syns::{syn_dropped, syn_sent, syn_taken};
 use crate::waiting::{observe_begin, observe_end};
@@ -57,6 +58,7 @@ pub(crate) fn unseen() -> Observation
         earns: false,
         syn_change: SynChange::Nothing,
         blocks: no_blocks(),
+        kept: nothing_kept(),
         call_change: CallChange::Nothing,
         socket_change: SocketChange::Nothing,
     }
@@ -248,6 +250,7 @@ pub(crate) fn observe_taking(
         earns: earns_by_taking(version, body, m, target),
         syn_change: syn_taken(version, body, m, target),
         blocks: blocks_taken(version, body, m, target),
+        kept: kept_at(version, body, how, m, target),
         ..unseen()
     }
 }

@@ -1,7 +1,7 @@
 //! What the rule compares, by what the step is about.
 
 use crate::scene::{Building, Expiring, Object, Processing, Scene};
-use crate::{arrivals, builds, calls, inbox, late, limits, numbers, order, resets, timers, wire};
+use crate::{arrivals, builds, calls, inbox, late, limits, numbers, order, reported, resets, timers, wire};
 use case_forms::{Answer, OutOfMemory, Recovery, TakeChoice, Wire};
 use endpoint_state::Endpoint;
 use spec_tcp::{Arrived, Emission};
@@ -61,6 +61,7 @@ pub(crate) fn compare(out: &mut String, scene: &Scene, rule: Rule) -> Result<(),
         | Rule::TimerEarly
         | Rule::Recovery
         | Rule::Discarded
+        | Rule::SackUntrue
         | Rule::Resent
         | Rule::ResentBeyond => compare_at(out, scene, rule),
         // What the step is about says it all.
@@ -138,6 +139,7 @@ fn of_sent(
         Rule::BytesDiffer => wire::differs(out, scene.header().version, made, wire),
         Rule::NotMade => wire::sent_before(out, scene, number),
         Rule::SendLate => late::built(out, scene, number),
+        Rule::SackUntrue => reported::untrue(out, scene, made, wire),
         _ => Ok(()),
     }
 }

@@ -14,7 +14,8 @@
 //! - `described`: an endpoint in words; `owed`: what it owes; `inbox`: a received segment in words
 //! - `order`, `calls`, `builds`, `wire`, `arrivals`, `numbers`, `timers`: what the rules compare; `late`, `limits`:
 //!   the same for duties
-//! - `losses`: what is known of losses if both SYNs permitted SACK; `probes`: the same for probes
+//! - `losses`: what is known of losses if both SYNs permitted SACK; `probes`: the same for probes; `reported`: which
+//!   SACK blocks aren't true
 //! - `allowed`: the answers that a call may have
 //! - `known`: what is known at the step of the causes of its rule
 //! - `other_windows`, `segment_window`, `loss_windows`, `changes`: the other windows that a segment would fit, kept
@@ -44,6 +45,7 @@ mod order;
 mod other_windows;
 mod owed;
 mod probes;
+mod reported;
 mod resets;
 mod restarts;
 mod scene;

@@ -108,7 +108,7 @@ pub(crate) struct Scene<'c> {
     pub step: Option<&'c Step>,
     pub world: &'c World,
     pub duties: &'c Duties,
-    flights: &'c Flights,
+    pub flights: &'c Flights,
     /// For each line used, the line of the witness that used it.
     pub used: &'c BTreeMap<u64, u64>,
     /// If the step builds a segment, other windows of the endpoint that builds it.

@@ -13,7 +13,7 @@ use spec_duties::{Observation, View};
 use spec_step::{Hidden, ModelStep};
 use std::alloc::Global;
 use verdict::Rule;
-use watched::{note_waits, observe_hidden, observe_line, view_in};
+use watched::{note_waits, observe_hidden, observe_line, untrue_at, view_in};
 
 /// What is kept beside the world: data in flight, and what hosts owe.
 #[derive(Drop)]
@@ -44,11 +44,20 @@ pub(crate) struct Watch {
 }
 
 impl Watch {
-    // The rule of a duty that a step breaks. None: it breaks none.
-    fn broken(self, world: &World, duties: &Duties, seen: &Observation) -> Option<Rule> {
-        let slack = self.slack?;
+    // The rule of a duty that a step breaks. `untrue`: it sends a selective acknowledgment that isn't true. None: it
+    // breaks none.
+    fn broken(
+        self,
+        world: &World,
+        duties: &Duties,
+        untrue: bool,
+        seen: &Observation,
+    ) -> Option<Rule> {
+        let Some(slack) = self.slack else {
+            return if untrue { Some(Rule::SackUntrue) } else { None };
+        };
         duties
-            .admits(world.header(), slack, self.moment, seen)
+            .admits(world.header(), slack, self.moment, untrue, seen)
             .err()
     }
 
@@ -64,6 +73,7 @@ impl Watch {
         world: &World,
         beside: &Beside,
         step: &S,
+        untrue: bool,
         seen: &Observation,
     ) -> Result<Option<Rule>, Rule>
         requires steps { world.now.steps < most_steps }
@@ -72,7 +82,7 @@ impl Watch {
         if let Some(refused) = beside.flights.refusal(world.header(), self.moment, seen) {
             return Err(earlier(step.admits(world, self.moment), refused));
         }
-        let broken = self.broken(world, &beside.duties, seen);
+        let broken = self.broken(world, &beside.duties, untrue, seen);
         if let Some(rule) = broken {
             self.permits(rule, step.admits(world, self.moment))?;
         }
@@ -104,12 +114,13 @@ impl Watch {
         world: &mut World,
         beside: &mut Beside,
         step: S,
+        untrue: bool,
         seen: &Observation,
     ) -> Result<Option<Rule>, StepFault>
         requires steps { world.old.steps < most_steps }
         requires small { S.is_small step }
     {
-        let broken = self.judge(world, beside, &step, seen)?;
+        let broken = self.judge(world, beside, &step, untrue, seen)?;
         step.apply(world, self.moment)?;
         let now = view_in(world, &seen.touched);
         beside
@@ -130,7 +141,8 @@ impl Watch {
         requires { world.old.steps < most_steps }
     {
         let seen = observe_line(world, self.moment, &line);
-        self.step(world, beside, line, &seen)
+        let untrue = untrue_at(world, &beside.flights, &line);
+        self.step(world, beside, line, untrue, &seen)
     }
 
     /// Does a step that takes none, in the same way.
@@ -144,7 +156,7 @@ impl Watch {
         requires small { IsSmall step }
     {
         let seen = observe_hidden(world, self.moment, &step);
-        self.step(world, beside, step, &seen)
+        self.step(world, beside, step, false, &seen)
     }
 }
 

@@ -37,6 +37,7 @@ SECTIONS = {
     "resent": "6298, 5.4, 5.5; 5681, 3.2",
     "resent-beyond": "5681, 3.1",
     "ack-excess": "5681, 4.2",
+    "sack-untrue": "2018, 2 to 4",
     "sample-due": "6298, 3",
     "answer-late": "9293, 3.9.1",
 }

@@ -82,16 +82,20 @@ impl Duties {
         }
     }
 
-    // Whether no answer is late in a step that touches no endpoint.
+    // Whether nothing is refused of a step that touches no endpoint.
     #[inline(always)]
     pub(super) fn admits_answer(
         &self,
         slack: u64,
         moment: u64,
+        untrue: bool,
         change: CallChange,
     ) -> Result<(), Rule>
-        ensures { result_err result ≡ first_broken (answer_rules slack moment self.now change) }
+        ensures { result_err result ≡ first_broken (answer_rules slack moment self.now untrue change) }
     {
+        if untrue {
+            return Err(Rule::SackUntrue);
+        }
         if is_late(slack, moment, answer_due(self.answer_since(change))) {
             return Err(Rule::AnswerLate);
         }

@@ -1,6 +1,6 @@
 //! Seventh, the segment text.
 
-ghost use Rattle.spec_tcp.specs.Arrives.OtherStates.Text.{kept_bytes, kept_start, receive_after, text_raised};
+ghost use Rattle.spec_tcp.specs.Arrives.OtherStates.Text.{kept_bytes, kept_end, kept_start, receive_after, text_raised};
 ghost use Rattle.spec_tcp.specs.Bounds.{IsSmallEmission, greatest_position};
 ghost use Rattle.spec_tcp.specs.Endpoints.{rcv_nxt};
 ghost use Rattle.std.specs.Prelude.{◌≡◌, ◌≤◌, ◌<◌, ◌+◌, ◌^◌, nat_lt, IfOk, OnOk, OnErr, length};
@@ -90,9 +90,24 @@ fn kept_bytes<'a>(endpoint: &Endpoint, how: TakeChoice, m: &'a Arrived<'_>) -> &
     &m.payload()[start as usize..end as usize]
 }
 
-fn kept_start(endpoint: &Endpoint, m: &Arrived<'_>) -> u64
+/// The first position of a segment that may be kept: none is below RCV.NXT.
+pub fn kept_start(endpoint: &Endpoint, m: &Arrived<'_>) -> u64
     requires { m.now.pos ≤ greatest_position }
     ensures { result ≡ kept_start endpoint.now m.now }
 {
     endpoint.rcv_nxt().max(first_byte(m))
+}
+
+/// The position after those that are kept of a segment, with a FIN. Copies nothing.
+pub fn kept_end(endpoint: &Endpoint, how: TakeChoice, m: &Arrived<'_>) -> u64
+    requires { IsSmallEmission m.now }
+    ensures { result ≡ kept_end endpoint.now how m.now }
+{
+    let start = kept_start(endpoint, m);
+    let fin = keeps_fin(endpoint, how, m);
+    let bytes = kept_bytes(endpoint, how, m);
+    if bytes.is_empty() && !fin {
+        return start;
+    }
+    start + endpoint.stream.receive.kept_count(start, bytes, fin)
 }

@@ -1,8 +1,8 @@
 -- Seventh, the segment text, and the stream and the state afterwards (RFC 9293, 3.10.7.4).
-use Rattle.std.specs.Prelude.{ℕ, ◌-◌, ◌==◌, nat_lt, ◌&&◌, min, max, if◌then◌else◌, List, [], slice_range}
+use Rattle.std.specs.Prelude.{ℕ, ◌+◌, ◌-◌, ◌==◌, nat_lt, ◌&&◌, min, max, if◌then◌else◌, List, [], length, slice_range}
 use Rattle.case_forms.specs.declared.calls.State.{State}
 use Rattle.case_forms.specs.declared.steps.TakeChoice.{TakeChoice}
-use Rattle.streams.specs.Received.{Receiving, is_ended, kept, next}
+use Rattle.streams.specs.Received.{Receiving, body_kept, is_ended, kept, next}
 use Rattle.spec_tcp.specs.Endpoints.{Stream, TextTaken, Endpoint, Emission, rcv_nxt}
 use Rattle.spec_tcp.specs.Arrives.OtherStates.Ack.{snd_una_after_segment, acknowledged}
 use Rattle.spec_tcp.specs.Arrives.OtherStates.Fin.{first_byte, fin_place, keeps_fin, finished}
@@ -16,6 +16,11 @@ kept_bytes e how m =
     if how.keep
     then slice_range m.payload (kept_start e m - first_byte m) (min (fin_place m) e.window.rcv_adv - first_byte m)
     else []
+
+-- the position after those that are kept, with a FIN
+abbrev pub kept_end : Endpoint → TakeChoice → Emission → ℕ
+kept_end e how m =
+    kept_start e m + length (body_kept e.stream.receive.taken (kept_start e m) (kept_bytes e how m) (keeps_fin e how m))
 
 abbrev pub receive_after : Endpoint → TakeChoice → Emission → Receiving
 receive_after e how m = kept e.stream.receive (kept_start e m) (kept_bytes e how m) (keeps_fin e how m)

@@ -13,7 +13,7 @@ pub returns-in_ok-note-in-Ok-clause-ok : goal.returns-in_ok-note-in-Ok-clause-ok
 returns-in_ok-note-in-Ok-clause-ok g c =
     step_is c.args.world.now c.args.flights.now c.args.duties.now c.args.moment (g.S.ModelStep.step c.args.step)
     c.watch.result c.apply.new.world c.args.seen.now c.note.new.self c.watch.new.duties
-    (done_does c.args.refusal c.apply.result c.with_refusal.result c.in-Ok.field-0 c.with_refusal.ensures c.in-Ok.is
+    (done_does c.args.flown.refusal c.apply.result c.with_refusal.result c.in-Ok.field-0 c.with_refusal.ensures c.in-Ok.is
     (c.apply.new.world ≡ after c.args.world.now c.args.moment (g.S.ModelStep.step c.args.step)) c.apply.ensures.ok)
     c.requires.seen
     (c.in_ok-note-in-Ok.ensures
@@ -24,29 +24,29 @@ returns-in_ok-note-in-Ok-clause-ok g c =
 pub returns-in_ok-note-in-Ok-clause-admitted : goal.returns-in_ok-note-in-Ok-clause-admitted
 returns-in_ok-note-in-Ok-clause-admitted g c =
     step_admits c.args.world.now c.args.flights.now c.args.duties.now c.args.moment (g.S.ModelStep.step c.args.step)
-    c.watch.result c.apply.new.world c.args.seen.now c.args.refusal c.requires.refused
-    (done_is c.args.refusal c.apply.result c.with_refusal.result c.in-Ok.field-0 c.with_refusal.ensures c.in-Ok.is).0
-    (done_does c.args.refusal c.apply.result c.with_refusal.result c.in-Ok.field-0 c.with_refusal.ensures c.in-Ok.is
+    c.watch.result c.apply.new.world c.args.flown.untrue c.args.seen.now c.args.flown.refusal c.requires.untrue c.requires.refused
+    (done_is c.args.flown.refusal c.apply.result c.with_refusal.result c.in-Ok.field-0 c.with_refusal.ensures c.in-Ok.is).0
+    (done_does c.args.flown.refusal c.apply.result c.with_refusal.result c.in-Ok.field-0 c.with_refusal.ensures c.in-Ok.is
     (first_broken (step_rules (tcp c.args.world.now.header) c.args.moment c.args.world.now.world (g.S.ModelStep.step c.args.step)) ≡ None)
     c.apply.ensures.admitted)
-    (done_does c.args.refusal c.apply.result c.with_refusal.result c.in-Ok.field-0 c.with_refusal.ensures c.in-Ok.is
+    (done_does c.args.flown.refusal c.apply.result c.with_refusal.result c.in-Ok.field-0 c.with_refusal.ensures c.in-Ok.is
     (c.apply.new.world ≡ after c.args.world.now c.args.moment (g.S.ModelStep.step c.args.step)) c.apply.ensures.ok)
     c.requires.seen c.watch.ensures.admitted
 
 pub returns-in_ok-note-in-Ok-clause-broken : goal.returns-in_ok-note-in-Ok-clause-broken
 returns-in_ok-note-in-Ok-clause-broken g c =
     step_breaks c.args.world.now c.args.flights.now c.args.duties.now c.args.moment (g.S.ModelStep.step c.args.step)
-    c.watch.result c.apply.new.world c.args.seen.now c.args.refusal c.requires.refused
-    (done_is c.args.refusal c.apply.result c.with_refusal.result c.in-Ok.field-0 c.with_refusal.ensures c.in-Ok.is).0
-    (done_does c.args.refusal c.apply.result c.with_refusal.result c.in-Ok.field-0 c.with_refusal.ensures c.in-Ok.is
+    c.watch.result c.apply.new.world c.args.flown.untrue c.args.seen.now c.args.flown.refusal c.requires.untrue c.requires.refused
+    (done_is c.args.flown.refusal c.apply.result c.with_refusal.result c.in-Ok.field-0 c.with_refusal.ensures c.in-Ok.is).0
+    (done_does c.args.flown.refusal c.apply.result c.with_refusal.result c.in-Ok.field-0 c.with_refusal.ensures c.in-Ok.is
     (first_broken (step_rules (tcp c.args.world.now.header) c.args.moment c.args.world.now.world (g.S.ModelStep.step c.args.step)) ≡ None)
     c.apply.ensures.admitted)
-    (done_does c.args.refusal c.apply.result c.with_refusal.result c.in-Ok.field-0 c.with_refusal.ensures c.in-Ok.is
+    (done_does c.args.flown.refusal c.apply.result c.with_refusal.result c.in-Ok.field-0 c.with_refusal.ensures c.in-Ok.is
     (c.apply.new.world ≡ after c.args.world.now c.args.moment (g.S.ModelStep.step c.args.step)) c.apply.ensures.ok)
     c.requires.seen c.watch.ensures.broken
 
 pub returns-in-Err-clause-broken : goal.returns-in-Err-clause-broken
 returns-in-Err-clause-broken g c =
     model_refuses c.args.world.now c.args.flights.now c.args.duties.now c.args.moment (g.S.ModelStep.step c.args.step)
-    c.args.refusal c.apply.result c.with_refusal.result c.in-Err.fault c.requires.refused c.apply.ensures.admitted c.apply.ensures.broken
+    c.args.flown.refusal c.apply.result c.with_refusal.result c.in-Err.fault c.requires.refused c.apply.ensures.admitted c.apply.ensures.broken
     c.with_refusal.ensures c.in-Err.is

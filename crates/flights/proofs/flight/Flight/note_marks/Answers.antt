@@ -35,6 +35,7 @@ returns c =
       board = c.self.inside.board;
       rescued = c.self.inside.rescued;
       probing = c.self.inside.probing;
+      held = items c.self.inside.held;
     }
 
     left : (taken marked : Stretch) → List ℕ

@@ -1,0 +1,65 @@
+//! What a selective acknowledgment reports, and the endpoint doesn't hold.
+
+use crate::late::describe_touched;
+use crate::scene::Scene;
+use case_forms::{OutOfMemory, Wire};
+use endpoint_state::Endpoint;
+use flights::Untrue;
+use segment::sack_block;
+use seqno::{Word, read_near};
+use spec_tcp::Emission;
+
+/// Writes why the blocks of a segment aren't true.
+pub(crate) fn untrue(
+    out: &mut String,
+    scene: &Scene,
+    made: &Emission,
+    wire: &Wire,
+) -> Result<(), OutOfMemory> {
+    describe_touched(out, scene)?;
+    let (id, bytes) = (made.sender, wire.bytes.as_slice());
+    let Some(endpoint) = scene.world.body(id.host).endpoint_at(id.number) else {
+        return Ok(());
+    };
+    match scene.flights.why_untrue(id, endpoint, bytes) {
+        Some(Untrue::NotPermitted) => out.push_str(
+            "it has a SACK block, and the peer's SYN didn't permit selective acknowledgments\n",
+        ),
+        Some(Untrue::Block(place)) => say_block(out, endpoint, bytes, place),
+        None => Ok(()),
+    }
+}
+
+// Writes what the block in this place, counted from 0, reports.
+fn say_block(
+    out: &mut String,
+    endpoint: &Endpoint,
+    bytes: &[u8],
+    place: usize,
+) -> Result<(), OutOfMemory> {
+    let (Some(block), Some(irs)) = (sack_block(bytes, place), endpoint.irs) else {
+        return Ok(());
+    };
+    let (number, next) = (place as u64 + 1, endpoint.rcv_nxt());
+    let left = position(next, irs, block.left);
+    let right = position(next, irs, block.right);
+    match (left, right) {
+        (Some(left), Some(right)) if left < right => writeln!(
+            out,
+            "block {number} reports the positions from {left} to before {right}; next in order is {next}, and the \
+endpoint doesn't hold all that it reports from there on"
+        ),
+        _ => writeln!(
+            out,
+            "block {number} reports no positions: its edges are the numbers {} and {}",
+            block.left.0, block.right.0
+        ),
+    }
+}
+
+// The position that a number has near what is next in order.
+fn position(next: u64, irs: Word, number: Word) -> Option<u64>
+    requires { next < 2 ^ 63 }
+{
+    read_near(next, irs, number)
+}
