@@ -348,12 +348,12 @@ one_plan words p q a b =
     ap (λ (n : ℕ). record p { rounds = n }) rounds ∙ ap (λ (n : ℕ). record q { lose = n; version = p.version }) lose
     ∙ ap (λ (v : Version). record q { version = v }) version
 
-pub asks_whole : (words : List Text) (plan : Plan) → AsksRecord words plan → (is_half plan.version ≡ false) × (says_sender plan.version ≡ false)
+pub asks_whole : (words : List Text) (plan : Plan) → AsksRecord words plan → is_half plan.version ≡ false
 asks_whole words plan asks = whole (numbers_of Format asks.options) plan.version asks.version
   where
-    whole : (ns : List ℕ) (v : Version) → IsVersion ns v → (is_half v ≡ false) × (says_sender v ≡ false)
-    whole ns versions.One is = (refl, refl)
-    whole ns versions.Two is = (refl, refl)
+    whole : (ns : List ℕ) (v : Version) → IsVersion ns v → is_half v ≡ false
+    whole ns versions.One is = refl
+    whole ns versions.Two is = refl
     whole ns versions.Three is = absurd is
     whole ns versions.Four is = absurd is
     whole ns versions.FourHalf is = absurd is
@@ -361,3 +361,17 @@ asks_whole words plan asks = whole (numbers_of Format asks.options) plan.version
     whole ns versions.FiveHalf is = absurd is
     whole ns versions.Six is = absurd is
     whole ns versions.SixHalf is = absurd is
+
+pub asks_unjudged : (words : List Text) (plan : Plan) → AsksRecord words plan → says_sender plan.version ≡ false
+asks_unjudged words plan asks = unjudged (numbers_of Format asks.options) plan.version asks.version
+  where
+    unjudged : (ns : List ℕ) (v : Version) → IsVersion ns v → says_sender v ≡ false
+    unjudged ns versions.One is = refl
+    unjudged ns versions.Two is = refl
+    unjudged ns versions.Three is = absurd is
+    unjudged ns versions.Four is = absurd is
+    unjudged ns versions.FourHalf is = absurd is
+    unjudged ns versions.Five is = absurd is
+    unjudged ns versions.FiveHalf is = absurd is
+    unjudged ns versions.Six is = absurd is
+    unjudged ns versions.SixHalf is = absurd is
