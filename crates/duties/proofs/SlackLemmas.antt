@@ -59,9 +59,9 @@ use Rattle.spec_duties.specs.declared.views.View.{View}
 pub nothing_judged : (h : Header) (moment : ℕ) (d : Duties) (s : Observation) → h.slack ≡ None → judged_rules h moment d s ≡ []
 nothing_judged h moment d s any = ap (λ o. on o [] (λ slack. duty_rules h slack moment d s)) any
 
--- nor does what is kept of data in flight refuse anything where it isn't judged: in versions 1 to 5, or at the level `none`
+-- nor does what is kept of data in flight refuse anything where it isn't judged: in versions 1 to 5
 pub not_judging : (h : Header) → says_sender h.version ≡ false → judges h ≡ false
-not_judging h old = ap (λ (b : Bool). b && judges_repeats h.congestion) old
+not_judging h old = old
 
 pub refused_unjudged : (h : Header) (moment : ℕ) (k : Known) (step : Step tcp_shape) → judges h ≡ false → refused_by h moment k step ≡ None
 refused_unjudged h moment k (network.Begin line t call) none = refl
@@ -72,7 +72,7 @@ refused_unjudged h moment k (network.At host d) none = at d
     at : (d : HostStep tcp_shape) → refused_at h moment k host d ≡ None
     at (network.Makes m) = rw (none) refl
     at (network.Does x) = rw (none) refl
-    at (network.Expires line x) = refl
+    at (network.Expires line x) = rw (none) refl
     at (network.Sends line number wire) = refl
     at (network.Gets line copied wire) = refl
     at (network.Hears line wire) = refl

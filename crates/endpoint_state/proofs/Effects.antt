@@ -248,7 +248,17 @@ after_expiry_bounded Giveup moment steps e b =
       met = later.met;
       unmet = later.unmet;
     }
-after_expiry_bounded Pto moment steps e b = bounded_later steps e b
+after_expiry_bounded Pto moment steps e b =
+    let later = bounded_later steps e b in
+    record {
+      snd_una = later.snd_una;
+      counts = later.counts;
+      unanswered_expiries = later.unanswered_expiries;
+      backoffs = later.backoffs;
+      accepted = later.accepted;
+      met = later.met;
+      unmet = later.unmet;
+    }
 
 pub after_recovery_bounded : (cwnd ssthresh moment steps : ℕ) (e : Endpoint) → IsBounded steps e → IsBounded (suc steps) (after_recovery e cwnd ssthresh moment)
 after_recovery_bounded cwnd ssthresh moment steps e b =

@@ -12,5 +12,5 @@ use Rattle.spec_flights.specs.Marks.{old_part}
 abbrev pub WhatIsToldStays : Type 0
 WhatIsToldStays =
     (clock : ℕ) (m : SegmentPlan) (v : View) (f : Flight) → f.recovery.is_fast ≡ true → goes_again v m ≡ true
-    → broken_at clock (Builds m) v f ≡ None
+    → broken_at true clock (Builds m) v f ≡ None
     → meets (from_list f.board.told) (old_part v m).from (old_part v m).upto ≡ false

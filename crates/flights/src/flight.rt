@@ -107,7 +107,7 @@ impl Flight {
             && !is_recovering(v, self.recovery)
             && is_none(self.probing.probe)
             && self.probing.quiet.is_some()
-            && !self.board.told.meets(v.snd_una, v.snd_max)
+            && !self.board.tells(v.snd_una, v.snd_max)
     }
 
     // The rule that a step breaks that makes a probe due. None: it breaks none.

@@ -1,8 +1,9 @@
 //! What may be sent again.
 
-ghost use Rattle.std.specs.Prelude.{◌≡◌, ◌≤◌, ◌<◌, true, false, not, ◌&&◌, None, IfSome};
+ghost use Rattle.std.specs.Prelude.{◌≡◌, ◌≤◌, ◌<◌, ◌+◌, true, false, not, nat_eq, ◌&&◌, None, IfSome};
 ghost use Rattle.std.specs.FinSet.{from_list};
 ghost use Rattle.std.specs.List.{list_all};
+ghost use Rattle.spec_tcp.specs.Makes.Payload.{making_length};
 ghost use Rattle.streams.specs.Ranges.{covers, meets, positions};
 ghost use Rattle.spec_flights.specs.Flights.{are_free, free_below, is_free, is_marked, is_probe, is_rescue};
 ghost use Rattle.spec_flights.specs.Flights.{may_go_again, recovers_selectively, sends_nothing_new};
@@ -23,6 +24,13 @@ fn sends_nothing_new(v: &View) -> bool
     ensures { result ≡ sends_nothing_new v.now }
 {
     v.end <= v.snd_max || v.snd_una.saturating_add(u64::from(v.snd_wnd)) <= v.snd_max
+}
+
+// Whether the position after a segment is this one.
+fn ends_at(plan: &SegmentPlan, end: u64) -> bool
+    ensures { result ≡ nat_eq (plan.now.pos + making_length plan.now) end }
+{
+    u128::from(plan.pos) + u128::from(making_length(plan)) == u128::from(end)
 }
 
 impl Flight {
@@ -126,8 +134,8 @@ impl Flight {
     {
         let old = old_part(v, plan);
         is_due(self.probing.probe)
-            && plan.pos.saturating_add(making_length(plan)) == v.snd_max
-            && !self.board.told.meets(old.from, old.upto)
+            && ends_at(plan, v.snd_max)
+            && !self.board.tells(old.from, old.upto)
     }
 
     /// Whether a segment may be sent again.

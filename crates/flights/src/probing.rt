@@ -1,6 +1,6 @@
 //! Probes for the loss of what was sent last (RFC 8985, 7).
 
-ghost use Rattle.std.specs.Prelude.{◌≡◌};
+ghost use Rattle.std.specs.Prelude.{◌≡◌, ◌<◌, ◌^◌};
 ghost use Rattle.spec_flights.specs.Probing.{ends_quiet, is_due, is_early_probe, is_none, makes_positions, not_probing};
 ghost use Rattle.spec_flights.specs.Probing.{probe_after, probe_before, probe_built, probe_moment, probe_timeout};
 ghost use Rattle.spec_flights.specs.Probing.{probing_after};
@@ -41,7 +41,8 @@ pub(crate) fn is_none(probe: Probe) -> bool
 
 // How long nothing may come or go before a probe, in microseconds.
 fn probe_timeout(v: &View) -> u128
-    ensures { result ≡ probe_timeout v.now }
+    ensures exact { result ≡ probe_timeout v.now }
+    ensures limit { result < 2 ^ 66 }
 {
     match v.timers.srtt {
         Some(srtt) => 2 * u128::from(srtt),

@@ -1,6 +1,8 @@
 //! What a sender knows of its outstanding positions.
 
 ghost use Rattle.std.specs.Prelude.{◌≡◌, OnOk};
+ghost use Rattle.std.specs.FinSet.{from_list};
+ghost use Rattle.streams.specs.Ranges.{meets};
 ghost use Rattle.spec_flights.specs.Scoreboard.{nothing_built, with_built, with_given_up};
 
 use case_forms::OutOfMemory;
@@ -52,6 +54,13 @@ impl Model for Scoreboard {
 }
 
 impl Scoreboard {
+    /// Whether the peer reported one of the positions from one to before another.
+    pub(crate) fn tells(&self, from: u64, upto: u64) -> bool
+        ensures { result ≡ meets (from_list self.now.told) from upto }
+    {
+        self.told.meets(from, upto)
+    }
+
     /// Before anything was built.
     pub(crate) fn new(alloc: Global) -> Scoreboard
         ensures { result ≡ nothing_built }

@@ -81,7 +81,7 @@ expiry_rules-forget h moment e (Rto growth) = rw (snd_max-forget e) refl
 expiry_rules-forget h moment e Persist = rw (rcv_nxt-forget e, end_of-forget e) refl
 expiry_rules-forget h moment e Msl2 = refl
 expiry_rules-forget h moment e Giveup = rw (snd_max-forget e) refl
-expiry_rules-forget h moment e Pto = refl
+expiry_rules-forget h moment e Pto = rw (rcv_nxt-forget e, snd_max-forget e) refl
 
 pub recovery_rules-forget : (v : Version) (e : Endpoint) (change : RecoveryChange) (cwnd ssthresh moment : ℕ)
     → recovery_rules v (forget_endpoint e) change cwnd ssthresh moment ≡ recovery_rules v e change cwnd ssthresh moment

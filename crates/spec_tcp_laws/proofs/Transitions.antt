@@ -19,7 +19,7 @@ use Rattle.case_forms.specs.declared.steps.SegmentPlan.{SegmentPlan}
 use Rattle.case_forms.specs.declared.steps.TakeChoice.{TakeChoice}
 use Rattle.case_forms.specs.declared.taken_line.Expired.{Expired}
 use Rattle.case_forms.specs.declared.taken_line.Expired.TheVariants as expireds
-use Rattle.case_forms.specs.declared.timer.Timer.TheVariants.{Msl2, Persist, Rto}
+use Rattle.case_forms.specs.declared.timer.Timer.TheVariants.{Msl2, Persist, Pto, Rto}
 use Rattle.case_forms.specs.declared.trace.Header.{Header}
 use Rattle.streams.specs.declared.transmission.Transmission.{Transmission}
 use Rattle.streams.specs.Lists.{modify}
@@ -52,7 +52,7 @@ use Rattle.spec_tcp.specs.Makes.Payload.{making_length}
 use Rattle.spec_tcp.specs.Makes.Edges.{own_window}
 use Rattle.spec_tcp.specs.Makes.{endpoint_made, after_making, timed}
 use Rattle.spec_tcp.specs.Arrives.OtherStates.Timers.{since_made, timeout_after_ack, rto_after_ack, state_timers, timers_after_segment}
-use Rattle.timer_rules.specs.Timers.{armed, stopped, sampled, raised_for_lost_syn}
+use Rattle.timer_rules.specs.Timers.{armed, expired, stopped, sampled, raised_for_lost_syn}
 use Rattle.timer_rules.specs.declared.timers.Timers.{Timers}
 use Rattle.spec_tcp.specs.Heard.{as_read, read_at}
 use Rattle.spec_tcp.specs.Arrives.OtherStates.Ack.{is_new_ack, acknowledges_syn, fin_acknowledged, acknowledged, snd_una_after_segment}
@@ -208,6 +208,13 @@ making_goes w s host m i e at = go m.flags.rst refl
         (ByOwnReset (m, refl, is, at) refl)
     go false is = stays w (At host (Makes m)) (name host i) e (endpoint_made e m s) refl (making_rises e m s) (timed_waits e.timers m s)
 
+probed_waits : (t : Timers) (moment : ℕ) → (expired t Pto moment).msl_armed ≡ t.msl_armed
+probed_waits t moment = go (is_some t.rto_armed)
+  where
+    go : (b : Bool) → (if b then armed t Rto moment else t).msl_armed ≡ t.msl_armed
+    go true = refl
+    go false = refl
+
 expiry_goes : (w : World tcp_shape) (s : ℕ) (host : Host) (line : ℕ) (x : Expiring) (i : ℕ) (e : Endpoint)
     → place_of (pick w.hosts host).body x.lport x.rport ≡ Some i
     → Goes w (At host (Expires line x)) (name host i) e (after_expiry e x.expired s)
@@ -221,7 +228,8 @@ expiry_goes w s host line x i e at = go x.expired (λ closing. (line, x, refl, c
     go expireds.Giveup closing =
         closed w (At host (Expires line x)) (name host i) e (after_expiry e expireds.Giveup s) refl (level e)
         (ByTimer (closing refl) refl)
-    go expireds.Pto closing = stays w (At host (Expires line x)) (name host i) e (after_expiry e expireds.Pto s) refl (level e) refl
+    go expireds.Pto closing =
+        stays w (At host (Expires line x)) (name host i) e (after_expiry e expireds.Pto s) refl (level e) (probed_waits e.timers s)
 
 -- the arrows of an acknowledgment, and behind it those of a FIN
 acknowledged_leads : (s : State) (e : Endpoint) (m : Emission) → StaysOr segment_leads s (acknowledged s e m)

@@ -100,7 +100,7 @@ refused-forget h moment k (At host d) = at d
     at : (d : HostStep tcp_shape) → refused_at h moment (forget k) host d ≡ refused_at h moment k host d
     at (Makes m) = seen (Makes m)
     at (Does x) = seen (Does x)
-    at (Expires line x) = refl
+    at (Expires line x) = seen (Expires line x)
     at (Sends line number wire) = refl
     at (Gets line copied wire) = refl
     at (Hears line wire) = refl

@@ -1,10 +1,14 @@
 -- Data in flight at another level of congestion control: the same is kept, and if less is judged, no more is refused.
 use Rattle.std.proofs.Common.{◌≡◌, ℕ, ◌+◌, ◌≤◌, Bool, true, false, List, [], ◌∷◌, ◌++◌, Option, None, Some, map, refl, ap, sym, ◌∙◌, arith}
-use Rattle.std.specs.Prelude.{◌&&◌, not, if◌then◌else◌, nat_eq}
+use Rattle.std.specs.Prelude.{◌&&◌, not, if◌then◌else◌, nat_eq, slice_get}
 use Rattle.std.specs.FinSet.{difference, from_list, items, union}
-use Rattle.std.specs.Option.{option_map}
+use Rattle.std.specs.Option.{option_map, option_map_or}
 use Rattle.indexmap.specs.IndexMap.{insert_entry}
 use Rattle.case_forms.specs.Versions.{says_sender}
+use Rattle.case_forms.specs.TakenLines.{timer_of}
+use Rattle.case_forms.specs.declared.calls.Host.{Host}
+use Rattle.case_forms.specs.declared.steps.SegmentPlan.{SegmentPlan}
+use Rattle.case_forms.specs.declared.timer.Timer.{Timer}
 use Rattle.case_forms.specs.declared.timer.Timer.TheVariants.{Giveup, Msl2, Persist, Pto, Rto}
 use Rattle.case_forms.specs.declared.trace.Header.{Header}
 use Rattle.case_forms.specs.declared.version.Judged.{Judged}
@@ -18,11 +22,14 @@ use Rattle.spec_network.specs.HostRules.{step_rules}
 use Rattle.spec_network.specs.Hosts.{HostStep, Step, World, Does, Expires as TimerLine, Makes, Sends as SendLine, Gets, Hears, Takes as TakeStep}
 use Rattle.spec_network.specs.Hosts.{Drops as DropStep, Answers, Begin, Finish, Effect, At}
 use Rattle.spec_network.specs.Tables.{on, pick, with_host}
+use Rattle.spec_tcp.specs.HostTcp.{HostTcp, place_of}
 use Rattle.spec_tcp.specs.Machine.{tcp, tcp_shape}
 use Rattle.spec_tcp.specs.Signals.{profile_of}
 use Rattle.spec_tcp_laws.specs.Judging.{IsJudged, extent, header_by, world_judged}
 use Rattle.spec_tcp_laws.specs.Levels.{is_of_level, other_rules}
-use Rattle.spec_duties.specs.Observations.{observe, view_in}
+use Rattle.spec_tcp.specs.declared.endpoint.Endpoint.{Endpoint}
+use Rattle.spec_duties.specs.Events.{acknowledges_more}
+use Rattle.spec_duties.specs.Observations.{at_place, observe, view_in}
 use Rattle.spec_duties.specs.Resent.{judges_repeats}
 use Rattle.spec_duties.specs.declared.events.Event.{Event}
 use Rattle.spec_duties.specs.declared.events.Event.TheVariants.{Builds, Calls, Drops, Expires, Opens, Processes, Recovers, Sends}
@@ -30,11 +37,16 @@ use Rattle.spec_duties.specs.declared.observations.Observation.{Observation}
 use Rattle.spec_duties.specs.declared.observations.SynChange.{SynChange}
 use Rattle.spec_duties.specs.declared.observations.SynChange.TheVariants as syn
 use Rattle.spec_duties.specs.declared.observations.TouchedEndpoint.{TouchedEndpoint}
+use Rattle.spec_duties.specs.Views.{view_of}
 use Rattle.spec_duties.specs.declared.views.View.{View}
 use Rattle.spec_flights.specs.Delivered.{read_reports, without_reports}
 use Rattle.spec_flights.specs.Flights.{Flight, Flights, board_after, broken_at, flight_after, flight_at, flight_by, flights_touched, may_begin, goes_again}
-use Rattle.spec_flights.specs.Flights.{marks_oldest, may_go_again, number_built, refusal, rescued_after}
+use Rattle.spec_flights.specs.Flights.{marks_oldest, may_be_probed, may_go_again, number_built, refusal, rescued_after}
 use Rattle.spec_flights.specs.Marks.{marked_by, marked_by_event, marks_after, old_part, taken_by}
+use Rattle.spec_flights.specs.Probing.{is_early_probe, probe_before, probing_after}
+use Rattle.spec_flights.specs.declared.probing.Probe.{Probe}
+use Rattle.spec_flights.specs.declared.probing.Probe.TheVariants as probes
+use Rattle.spec_flights.specs.declared.probing.Probing.{Probing}
 use Rattle.spec_flights.specs.Recovering.{is_recovering, recovery_after}
 use Rattle.spec_flights.specs.Scoreboard.{Scoreboard}
 use Rattle.spec_flights.specs.Sides.{sides_after}
@@ -43,7 +55,7 @@ use Rattle.spec_flights.specs.declared.reports.Reports.{Reports}
 use Rattle.spec_flights.specs.declared.sides.Sides.{Sides}
 use Rattle.spec_flights.specs.declared.stretch.Stretch.{Stretch}
 use Rattle.spec_cases.specs.Cases.{Known, flown, model_rules, refused_at, refused_by, with_broken, with_refusal}
-use Rattle.watched.specs.Levels.{is_old_data, known_judged, observed_with, remaining, touched_with, view_with}
+use Rattle.watched.specs.Levels.{ShowsHigher, is_old_data, known_judged, observed_with, remaining, touched_with, view_with}
 use Rattle.watched.proofs.LevelObservations.{shows_the_same, view_seen}
 
 -- ---- what is kept doesn't depend on the edge
@@ -136,6 +148,27 @@ rescued_same clock (Expires Giveup) a before f = refl
 rescued_same clock (Expires Pto) a before f = refl
 rescued_same clock Recovers a before f = refl
 
+probe_same : (b : ℕ) (after : View) (p : Probe) → probe_before (view_with b after) p ≡ probe_before after p
+probe_same b after probes.Nothing = refl
+probe_same b after probes.Due = refl
+probe_same b after (probes.Out end) = refl
+
+probing_same : (moment : ℕ) (event : Event) (a b : ℕ) (before after : View) (p : Probing)
+    → probing_after moment event (view_with a before) (view_with b after) p ≡ probing_after moment event before after p
+probing_same moment Opens a b before after p = ap (λ (x : Probe). record { probe = x; quiet = p.quiet }) (probe_same b after p.probe)
+probing_same moment (Calls abort) a b before after p = ap (λ (x : Probe). record { probe = x; quiet = p.quiet }) (probe_same b after p.probe)
+probing_same moment (Processes length rst) a b before after p =
+    ap (λ (x : Probe). record { probe = x; quiet = if acknowledges_more before after then Some moment else p.quiet }) (probe_same b after p.probe)
+probing_same moment (Drops asks unlimited) a b before after p = ap (λ (x : Probe). record { probe = x; quiet = p.quiet }) (probe_same b after p.probe)
+probing_same moment (Builds m) a b before after p = refl
+probing_same moment (Sends s) a b before after p = ap (λ (x : Probe). record { probe = x; quiet = p.quiet }) (probe_same b after p.probe)
+probing_same moment (Expires Rto) a b before after p = refl
+probing_same moment (Expires Persist) a b before after p = ap (λ (x : Probe). record { probe = x; quiet = p.quiet }) (probe_same b after p.probe)
+probing_same moment (Expires Msl2) a b before after p = ap (λ (x : Probe). record { probe = x; quiet = p.quiet }) (probe_same b after p.probe)
+probing_same moment (Expires Giveup) a b before after p = ap (λ (x : Probe). record { probe = x; quiet = p.quiet }) (probe_same b after p.probe)
+probing_same moment (Expires Pto) a b before after p = refl
+probing_same moment Recovers a b before after p = refl
+
 marks_same : (change : SynChange) (event : Event) (a b : ℕ) (before after : View) (r : Reports) (oldest : Bool) (marks : List ℕ)
     → marks_after change event (view_with a before) (view_with b after) r oldest marks ≡ marks_after change event before after r oldest marks
 marks_same change event a b before after r oldest marks =
@@ -153,12 +186,13 @@ flight_same : (moment clock : ℕ) (s : Observation) (t : TouchedEndpoint) (a b 
 flight_same moment clock s t a b after f =
     ap (λ (r : Recovery). flight_by moment clock (observed_with a s) (touched_with a t) (view_with b after) sides r f)
     (recovery_same t.event b after f.recovery)
-    ∙ ap (λ (oldest : Bool). with (marks (view_with a t.before) (view_with b after) oldest) board rescued)
+    ∙ ap (λ (oldest : Bool). with (marks (view_with a t.before) (view_with b after) oldest) board rescued probing)
     (oldest_same clock t.event a b t.before after sides now f)
-    ∙ ap (λ (ms : List ℕ). with ms board rescued)
+    ∙ ap (λ (ms : List ℕ). with ms board rescued probing)
     (marks_same s.syn_change t.event a b t.before after reports (marks_oldest clock t.event t.before after sides now f) f.marks)
-    ∙ ap (λ (x : Scoreboard). with kept x rescued) (board_same moment clock recovers number t.event a b t.before after reports f.board)
-    ∙ ap (with kept (board_after moment clock recovers number t.event t.before after reports f.board)) (rescued_same clock t.event a t.before f)
+    ∙ ap (λ (x : Scoreboard). with kept x rescued probing) (board_same moment clock recovers number t.event a b t.before after reports f.board)
+    ∙ ap (λ (used : Bool). with kept held used probing) (rescued_same clock t.event a t.before f)
+    ∙ ap (with kept held (rescued_after clock t.event t.before f)) (probing_same moment t.event a b t.before after f.probing)
   where
     sides : Sides
     sides = sides_after s.syn_change f.sides
@@ -187,18 +221,29 @@ flight_same moment clock s t a b after f =
     rescued : Bool
     rescued = rescued_after clock t.event (view_with a t.before) f
 
-    with : List ℕ → Scoreboard → Bool → Flight
-    with ms x used = record { sides = sides; recovery = now; marks = ms; board = x; rescued = used }
+    probing : Probing
+    probing = probing_after moment t.event (view_with a t.before) (view_with b after) f.probing
 
-broken_same : (clock : ℕ) (event : Event) (a : ℕ) (v : View) (f : Flight) → broken_at clock event (view_with a v) f ≡ broken_at clock event v f
-broken_same clock Opens a v f = refl
-broken_same clock (Calls abort) a v f = refl
-broken_same clock (Processes length rst) a v f = refl
-broken_same clock (Drops asks unlimited) a v f = refl
-broken_same clock (Builds m) a v f = refl
-broken_same clock (Sends s) a v f = refl
-broken_same clock (Expires timer) a v f = refl
-broken_same clock Recovers a v f = refl
+    held : Scoreboard
+    held = board_after moment clock recovers number t.event t.before after reports f.board
+
+    with : List ℕ → Scoreboard → Bool → Probing → Flight
+    with ms x used p = record { sides = sides; recovery = now; marks = ms; board = x; rescued = used; probing = p }
+
+broken_same : (repeats : Bool) (clock : ℕ) (event : Event) (a : ℕ) (v : View) (f : Flight)
+    → broken_at repeats clock event (view_with a v) f ≡ broken_at repeats clock event v f
+broken_same repeats clock Opens a v f = refl
+broken_same repeats clock (Calls abort) a v f = refl
+broken_same repeats clock (Processes length rst) a v f = refl
+broken_same repeats clock (Drops asks unlimited) a v f = refl
+broken_same repeats clock (Builds m) a v f = refl
+broken_same repeats clock (Sends s) a v f = refl
+broken_same repeats clock (Expires Rto) a v f = refl
+broken_same repeats clock (Expires Persist) a v f = refl
+broken_same repeats clock (Expires Msl2) a v f = refl
+broken_same repeats clock (Expires Giveup) a v f = refl
+broken_same repeats clock (Expires Pto) a v f = refl
+broken_same repeats clock Recovers a v f = refl
 
 pub flown_same : (j : Judged) (h : Header) (moment : ℕ) (w : World tcp_shape) (edge : ℕ) (s : Observation) (fs : Flights)
     → flown (header_by j h) moment (world_judged j h w) (observed_with edge s) fs ≡ flown h moment w s fs
@@ -230,22 +275,41 @@ repeats_less judged.Full judged.NoControl le is = absurd (omega (arith, le))
 repeats_less judged.Recovery judged.NoControl le is = absurd (omega (arith, le))
 repeats_less judged.NoControl judged.NoControl le is = is
 
+-- what isn't refused stays so if it isn't judged when data goes again
+broken_less : (less more : Bool) (clock : ℕ) (event : Event) (v : View) (f : Flight) → (less ≡ true → more ≡ true)
+    → broken_at more clock event v f ≡ None → broken_at less clock event v f ≡ None
+broken_less false more clock (Builds m) v f le none = refl
+broken_less true false clock (Builds m) v f le none = let is : false ≡ true = le refl in absurd cc
+broken_less true true clock (Builds m) v f le none = none
+broken_less false more clock Recovers v f le none = refl
+broken_less true false clock Recovers v f le none = let is : false ≡ true = le refl in absurd cc
+broken_less true true clock Recovers v f le none = none
+broken_less less more clock (Expires Rto) v f le none = refl
+broken_less less more clock (Expires Persist) v f le none = refl
+broken_less less more clock (Expires Msl2) v f le none = refl
+broken_less less more clock (Expires Giveup) v f le none = refl
+broken_less less more clock (Expires Pto) v f le none = none
+broken_less less more clock Opens v f le none = refl
+broken_less less more clock (Calls abort) v f le none = refl
+broken_less less more clock (Processes length rst) v f le none = refl
+broken_less less more clock (Drops asks unlimited) v f le none = refl
+broken_less less more clock (Sends s) v f le none = refl
+
 refusal_less : (j : Judged) (h : Header) (moment : ℕ) (fs : Flights) (edge : ℕ) (s : Observation) → extent j ≤ extent h.congestion
     → refusal h moment fs s ≡ None → refusal (header_by j h) moment fs (observed_with edge s) ≡ None
-refusal_less j h moment fs edge s le none =
-    by (says_sender h.version) (judges_repeats j) (judges_repeats h.congestion) s.touched (repeats_less j h.congestion le) none
+refusal_less j h moment fs edge s le none = by (says_sender h.version) s.touched none
   where
-    at : TouchedEndpoint → Option Rule
-    at t = broken_at (moment + h.grain) t.event t.before (flight_at fs t.host t.place)
+    at : Bool → TouchedEndpoint → Option Rule
+    at repeats t = broken_at repeats (moment + h.grain) t.event t.before (flight_at fs t.host t.place)
 
-    by : (strict less more : Bool) (o : Option TouchedEndpoint) → (less ≡ true → more ≡ true)
-        → (if strict && more then on o None at else None) ≡ None
-        → (if strict && less then on (option_map (touched_with edge) o) None at else None) ≡ None
-    by false less more o le none = refl
-    by true false more o le none = refl
-    by true true false o le none = let is : false ≡ true = le refl in absurd cc
-    by true true true None le none = refl
-    by true true true (Some t) le none = broken_same (moment + h.grain) t.event edge t.before (flight_at fs t.host t.place) ∙ none
+    by : (strict : Bool) (o : Option TouchedEndpoint) → (if strict then on o None (at (judges_repeats h.congestion)) else None) ≡ None
+        → (if strict then on (option_map (touched_with edge) o) None (at (judges_repeats j)) else None) ≡ None
+    by false o none = refl
+    by true None none = refl
+    by true (Some t) none =
+        broken_same (judges_repeats j) (moment + h.grain) t.event edge t.before (flight_at fs t.host t.place)
+        ∙ broken_less (judges_repeats j) (judges_repeats h.congestion) (moment + h.grain) t.event t.before (flight_at fs t.host t.place)
+        (repeats_less j h.congestion le) none
 
 pub refused_less : (j : Judged) (h : Header) (moment : ℕ) (k : Known) (step : Step tcp_shape) → extent j ≤ extent h.congestion → IsJudged h k.model
     → refused_by h moment k step ≡ None → refused_by (header_by j h) moment (known_judged j h k) step ≡ None
@@ -264,7 +328,7 @@ refused_less j h moment k (At host d) le is none = at d none
     at : (d : HostStep tcp_shape) → refused_at h moment k host d ≡ None → refused_at (header_by j h) moment (known_judged j h k) host d ≡ None
     at (Makes m) none = less (Makes m) none
     at (Does x) none = less (Does x) none
-    at (TimerLine line x) none = refl
+    at (TimerLine line x) none = less (TimerLine line x) none
     at (SendLine line number wire) none = refl
     at (Gets line copied wire) none = refl
     at (Hears line wire) none = refl
@@ -344,65 +408,220 @@ refused_out v (Some rules.OldData) rs is = old_out v rs is
 refused_out v (Some rules.Recovery) rs is = recovery_out v rs
 refused_out v (Some _) rs is = absurd is
 
-broken_levels : (v : Version) (clock : ℕ) (event : Event) (seen : View) (f : Flight) → says_sender v ≡ true
-    → IsLevels v (broken_at clock event seen f)
-broken_levels v clock (Builds m) seen f is = by (goes_again seen m && not (may_go_again clock seen f (old_part seen m)))
+-- a refusal by a rule that isn't the level's own breaks the same of the other rules
+module _ (t : Rule) (plain : is_of_level t ≡ false) (only : (r : Rule) → nat_eq (rule_number t) (rule_number r) ≡ true → r ≡ t) where
+  kept_out : (rs : List (Rule × Bool)) → other_rules (map (with_broken t) rs) ≡ map (with_broken t) (other_rules rs)
+  kept_out [] = refl
+  kept_out ((r, b) ∷ rs) = by (nat_eq (rule_number t) (rule_number r)) refl (is_of_level r) refl (kept_out rs)
+    where
+      now : Bool → Rule × Bool
+      now same = if same then (t, true) else (r, b)
+
+      left : List (Rule × Bool)
+      left = other_rules (map (with_broken t) rs)
+
+      by : (same : Bool) → nat_eq (rule_number t) (rule_number r) ≡ same → (own : Bool) → is_of_level r ≡ own
+          → left ≡ map (with_broken t) (other_rules rs)
+          → other_rules (now same ∷ map (with_broken t) rs) ≡ map (with_broken t) (if own then other_rules rs else (r, b) ∷ other_rules rs)
+      by true at true is rest = let no : true ≡ false = sym is ∙ ap is_of_level (only r at) ∙ plain in absurd cc
+      by true at false is rest =
+          ap (λ (own : Bool). if own then left else (t, true) ∷ left) plain ∙ ap (λ (xs : List (Rule × Bool)). (t, true) ∷ xs) rest
+          ∙ sym (ap (λ (same : Bool). now same ∷ map (with_broken t) (other_rules rs)) at)
+      by false at true is rest = ap (λ (own : Bool). if own then left else (r, b) ∷ left) is ∙ rest
+      by false at false is rest =
+          ap (λ (own : Bool). if own then left else (r, b) ∷ left) is ∙ ap (λ (xs : List (Rule × Bool)). (r, b) ∷ xs) rest
+          ∙ sym (ap (λ (same : Bool). now same ∷ map (with_broken t) (other_rules rs)) at)
+
+off_is : (r : Rule) → nat_eq 35 (rule_number r) ≡ true → r ≡ rules.TimerOff
+off_is rules.TimerOff is = refl
+off_is _ is = absurd cc
+
+early_is : (r : Rule) → nat_eq 36 (rule_number r) ≡ true → r ≡ rules.TimerEarly
+early_is rules.TimerEarly is = refl
+early_is _ is = absurd cc
+
+-- a rule that the line of a timer may break so
+abbrev IsTimers : Option Rule → Type 0
+IsTimers None = Unit {0}
+IsTimers (Some rules.TimerOff) = Unit {0}
+IsTimers (Some rules.TimerEarly) = Unit {0}
+IsTimers (Some rule) = ⊥
+
+timer_out : (o : Option Rule) (rs : List (Rule × Bool)) → IsTimers o → other_rules (with_refusal o rs) ≡ with_refusal o (other_rules rs)
+timer_out None rs is = refl
+timer_out (Some rules.TimerOff) rs is = kept_out rules.TimerOff refl off_is rs
+timer_out (Some rules.TimerEarly) rs is = kept_out rules.TimerEarly refl early_is rs
+timer_out (Some _) rs is = absurd is
+
+-- at an endpoint that there may be, which a step touches
+module _ (fs : Flights) (clock : ℕ) (host : Host) (b : HostTcp) (event : Event) where
+  abbrev there : Option ℕ → Option TouchedEndpoint
+  there place = option_map_or (at_place host b event) place None
+
+  abbrev refused_there : (strict repeats : Bool) → Option TouchedEndpoint → Option Rule
+  refused_there strict repeats o =
+      if strict then on o None (λ t. broken_at repeats clock t.event t.before (flight_at fs t.host t.place)) else None
+
+  all_there : (Is : Option Rule → Type 0) → Is None → (repeats strict : Bool)
+      → (strict ≡ true → (v : View) (f : Flight) → Is (broken_at repeats clock event v f)) → (place : Option ℕ)
+      → Is (refused_there strict repeats (there place))
+  all_there Is none repeats false each place = none
+  all_there Is none repeats true each None = none
+  all_there Is none repeats true each (Some i) = at (slice_get b.endpoints i)
+    where
+      touched : Endpoint → TouchedEndpoint
+      touched e = record { host = host; place = i; event = event; before = view_of e }
+
+      at : (o : Option Endpoint) → Is (refused_there true repeats (option_map touched o))
+      at None = none
+      at (Some e) = each refl (view_of e) (flight_at fs host i)
+
+  same_there : (edge : ℕ) (less more : Bool) → ((v : View) (f : Flight) → broken_at less clock event v f ≡ broken_at more clock event v f)
+      → (strict : Bool) (place : Option ℕ)
+      → refused_there strict less (option_map (touched_with edge) (there place)) ≡ refused_there strict more (there place)
+  same_there edge less more each false place = refl
+  same_there edge less more each true None = refl
+  same_there edge less more each true (Some i) = at (slice_get b.endpoints i)
+    where
+      touched : Endpoint → TouchedEndpoint
+      touched e = record { host = host; place = i; event = event; before = view_of e }
+
+      at : (o : Option Endpoint)
+          → refused_there true less (option_map (touched_with edge) (option_map touched o)) ≡ refused_there true more (option_map touched o)
+      at None = refl
+      at (Some e) = broken_same less clock event edge (view_of e) (flight_at fs host i) ∙ each (view_of e) (flight_at fs host i)
+
+builds_levels : (v : Version) → says_sender v ≡ true → (repeats : Bool) (clock : ℕ) (m : SegmentPlan) (seen : View) (f : Flight)
+    → IsLevels v (broken_at repeats clock (Builds m) seen f)
+builds_levels v is repeats clock m seen f = by (repeats && goes_again seen m && not (may_go_again clock seen m f))
   where
     by : (b : Bool) → IsLevels v (if b then Some rules.OldData else None)
     by true = is
     by false = tt
-broken_levels v clock Recovers seen f is = by (may_begin clock seen f)
+
+begins_levels : (v : Version) (repeats : Bool) (clock : ℕ) (seen : View) (f : Flight) → IsLevels v (broken_at repeats clock Recovers seen f)
+begins_levels v repeats clock seen f = by (repeats && not (may_begin clock seen f))
   where
-    by : (b : Bool) → IsLevels v (if b then None else Some rules.Recovery)
+    by : (b : Bool) → IsLevels v (if b then Some rules.Recovery else None)
     by true = tt
     by false = tt
-broken_levels v clock Opens seen f is = tt
-broken_levels v clock (Calls abort) seen f is = tt
-broken_levels v clock (Processes length rst) seen f is = tt
-broken_levels v clock (Drops asks unlimited) seen f is = tt
-broken_levels v clock (Sends s) seen f is = tt
-broken_levels v clock (Expires timer) seen f is = tt
 
-refusal_levels : (h : Header) (moment : ℕ) (fs : Flights) (s : Observation) → IsLevels h.version (refusal h moment fs s)
-refusal_levels h moment fs s = by (says_sender h.version) (judges_repeats h.congestion) refl s.touched
+expires_timers : (repeats : Bool) (clock : ℕ) (timer : Timer) (seen : View) (f : Flight) → IsTimers (broken_at repeats clock (Expires timer) seen f)
+expires_timers repeats clock Rto seen f = tt
+expires_timers repeats clock Persist seen f = tt
+expires_timers repeats clock Msl2 seen f = tt
+expires_timers repeats clock Giveup seen f = tt
+expires_timers repeats clock Pto seen f = by (may_be_probed seen f) (is_early_probe clock seen f.probing.quiet)
   where
-    at : TouchedEndpoint → Option Rule
-    at t = broken_at (moment + h.grain) t.event t.before (flight_at fs t.host t.place)
+    by : (may early : Bool) → IsTimers (if not may then Some rules.TimerOff else if early then Some rules.TimerEarly else None)
+    by false early = tt
+    by true true = tt
+    by true false = tt
 
-    by : (strict more : Bool) → says_sender h.version ≡ strict → (o : Option TouchedEndpoint)
-        → IsLevels h.version (if strict && more then on o None at else None)
-    by false more is o = tt
-    by true false is o = tt
-    by true true is None = tt
-    by true true is (Some t) = broken_levels h.version (moment + h.grain) t.event t.before (flight_at fs t.host t.place) is
-
-refused_levels : (h : Header) (moment : ℕ) (k : Known) (step : Step tcp_shape) → IsLevels h.version (refused_by h moment k step)
-refused_levels h moment k (Begin line t call) = tt
-refused_levels h moment k (Finish line t answer) = tt
-refused_levels h moment k (Effect t answer) = tt
-refused_levels h moment k (At host d) = at d
-  where
-    at : (d : HostStep tcp_shape) → IsLevels h.version (refused_at h moment k host d)
-    at (Makes m) = refusal_levels h moment k.flights (observe h moment k.model (At host (Makes m)))
-    at (Does x) = refusal_levels h moment k.flights (observe h moment k.model (At host (Does x)))
-    at (TimerLine line x) = tt
-    at (SendLine line number wire) = tt
-    at (Gets line copied wire) = tt
-    at (Hears line wire) = tt
-    at (TakeStep line how) = tt
-    at (DropStep line) = tt
-    at (Answers line) = tt
+expires_same : (less more : Bool) (clock : ℕ) (timer : Timer) (seen : View) (f : Flight)
+    → broken_at less clock (Expires timer) seen f ≡ broken_at more clock (Expires timer) seen f
+expires_same less more clock Rto seen f = refl
+expires_same less more clock Persist seen f = refl
+expires_same less more clock Msl2 seen f = refl
+expires_same less more clock Giveup seen f = refl
+expires_same less more clock Pto seen f = refl
 
 -- so at another level the other rules of the model are the same
-pub model_alike : (j : Judged) (h : Header) (moment : ℕ) (k : Known) (step : Step tcp_shape)
+pub model_alike : (j : Judged) (h : Header) (moment : ℕ) (k : Known) (step : Step tcp_shape) → extent j ≤ extent h.congestion → IsJudged h k.model
     → other_rules (step_rules (tcp (header_by j h)) moment (world_judged j h k.model) step) ≡ other_rules (step_rules (tcp h) moment k.model step)
     → remaining h.version (other_rules (model_rules (header_by j h) moment (known_judged j h k) step))
     ≡ remaining h.version (other_rules (model_rules h moment k step))
-model_alike j h moment k step same =
-    refused_out h.version (refused_by (header_by j h) moment (known_judged j h k) step)
-    (step_rules (tcp (header_by j h)) moment (world_judged j h k.model) step) (refused_levels (header_by j h) moment (known_judged j h k) step)
-    ∙ ap (remaining h.version) same
-    ∙ sym (refused_out h.version (refused_by h moment k step) (step_rules (tcp h) moment k.model step) (refused_levels h moment k step))
+model_alike j h moment k (Begin line t call) le is same = ap (remaining h.version) same
+model_alike j h moment k (Finish line t answer) le is same = ap (remaining h.version) same
+model_alike j h moment k (Effect t answer) le is same = ap (remaining h.version) same
+model_alike j h moment k (At host d) le is same = at d same
+  where
+    Alike : HostStep tcp_shape → Type 0
+    Alike d = other_rules (step_rules (tcp (header_by j h)) moment (world_judged j h k.model) (At host d))
+        ≡ other_rules (step_rules (tcp h) moment k.model (At host d))
+        → remaining h.version (other_rules (model_rules (header_by j h) moment (known_judged j h k) (At host d)))
+        ≡ remaining h.version (other_rules (model_rules h moment k (At host d)))
+
+    clock : ℕ
+    clock = moment + h.grain
+
+    strict : Bool
+    strict = says_sender h.version
+
+    b : HostTcp
+    b = (pick k.model.hosts host).body
+
+    less_rules : HostStep tcp_shape → List (Rule × Bool)
+    less_rules d = step_rules (tcp (header_by j h)) moment (world_judged j h k.model) (At host d)
+
+    more_rules : HostStep tcp_shape → List (Rule × Bool)
+    more_rules d = step_rules (tcp h) moment k.model (At host d)
+
+    left : Option Rule → List (Rule × Bool) → List (Rule × Bool)
+    left o rs = remaining h.version (other_rules (with_refusal o rs))
+
+    refused : Event → (repeats : Bool) → (place : Option ℕ) → Option Rule
+    refused event repeats place = refused_there k.flights clock host b event strict repeats (there k.flights clock host b event place)
+
+    -- what it refuses at the other level
+    less_refused : (d : HostStep tcp_shape) (event : Event) (place : Option ℕ) (more : Bool)
+        → (observe h moment k.model (At host d)).touched ≡ there k.flights clock host b event place
+        → ((v : View) (f : Flight) → broken_at (judges_repeats j) clock event v f ≡ broken_at more clock event v f)
+        → refusal (header_by j h) moment k.flights (observe (header_by j h) moment (world_judged j h k.model) (At host d)) ≡ refused event more place
+    less_refused d event place more touches each =
+        let seen = shows_the_same j h moment k.model (At host d) le is in
+        ap (λ (s : Observation). refusal (header_by j h) moment k.flights s) seen.1
+        ∙ ap (λ (o : Option TouchedEndpoint). refused_there k.flights clock host b event strict (judges_repeats j) (option_map (touched_with seen.0) o))
+        touches
+        ∙ same_there k.flights clock host b event seen.0 (judges_repeats j) more each strict place
+
+    by_levels : (d : HostStep tcp_shape) (event : Event) (place : Option ℕ)
+        → refused_by (header_by j h) moment (known_judged j h k) (At host d) ≡ refused event (judges_repeats j) place
+        → refused_by h moment k (At host d) ≡ refused event (judges_repeats h.congestion) place
+        → ((repeats : Bool) → strict ≡ true → (v : View) (f : Flight) → IsLevels h.version (broken_at repeats clock event v f)) → Alike d
+    by_levels d event place less more each same =
+        ap (λ (o : Option Rule). left o (less_rules d)) less
+        ∙ refused_out h.version (refused event (judges_repeats j) place) (less_rules d)
+        (all_there k.flights clock host b event (IsLevels h.version) tt (judges_repeats j) strict (each (judges_repeats j)) place)
+        ∙ ap (remaining h.version) same
+        ∙ sym (refused_out h.version (refused event (judges_repeats h.congestion) place) (more_rules d)
+        (all_there k.flights clock host b event (IsLevels h.version) tt (judges_repeats h.congestion) strict (each (judges_repeats h.congestion)) place))
+        ∙ sym (ap (λ (o : Option Rule). left o (more_rules d)) more)
+
+    by_timers : (d : HostStep tcp_shape) (timer : Timer) (place : Option ℕ)
+        → refused_by (header_by j h) moment (known_judged j h k) (At host d) ≡ refused (Expires timer) (judges_repeats h.congestion) place
+        → refused_by h moment k (At host d) ≡ refused (Expires timer) (judges_repeats h.congestion) place → Alike d
+    by_timers d timer place less more same =
+        let o = refused (Expires timer) (judges_repeats h.congestion) place in
+        let kind : IsTimers (refused (Expires timer) (judges_repeats h.congestion) place) =
+        all_there k.flights clock host b (Expires timer) IsTimers tt (judges_repeats h.congestion) strict
+        (λ is. expires_timers (judges_repeats h.congestion) clock timer) place in
+        ap (λ (o : Option Rule). left o (less_rules d)) less
+        ∙ ap (remaining h.version)
+        (timer_out o (less_rules d) kind ∙ ap (with_refusal o) same ∙ sym (timer_out o (more_rules d) kind))
+        ∙ sym (ap (λ (o : Option Rule). left o (more_rules d)) more)
+
+    at : (d : HostStep tcp_shape) → Alike d
+    at (Makes m) =
+        let place = place_of b m.lport m.rport in
+        by_levels (Makes m) (Builds m) place (less_refused (Makes m) (Builds m) place (judges_repeats j) refl (λ v f. refl)) refl
+        (λ repeats is. builds_levels h.version is repeats clock m)
+    at (Does x) =
+        let place = place_of b x.lport x.rport in
+        by_levels (Does x) Recovers place (less_refused (Does x) Recovers place (judges_repeats j) refl (λ v f. refl)) refl
+        (λ repeats is. begins_levels h.version repeats clock)
+    at (TimerLine line x) =
+        let timer = timer_of x.expired in
+        let place = place_of b x.lport x.rport in
+        by_timers (TimerLine line x) timer place
+        (less_refused (TimerLine line x) (Expires timer) place (judges_repeats h.congestion) refl
+        (expires_same (judges_repeats j) (judges_repeats h.congestion) clock timer)) refl
+    at (SendLine line number wire) = ap (remaining h.version)
+    at (Gets line copied wire) = ap (remaining h.version)
+    at (Hears line wire) = ap (remaining h.version)
+    at (TakeStep line how) = ap (remaining h.version)
+    at (DropStep line) = ap (remaining h.version)
+    at (Answers line) = ap (remaining h.version)
 
 pub remaining_both : (v : Version) (xs ys : List (Rule × Bool)) → remaining v (xs ++ ys) ≡ remaining v xs ++ remaining v ys
 remaining_both v [] ys = refl

@@ -337,7 +337,7 @@ case_alike j h moment k step le is =
     ∙ remaining_both h.version (other_rules (model_rules (header_by j h) moment (known_judged j h k) step))
     (other_rules (watch_rules (header_by j h) moment (known_judged j h k) step))
     ∙ ap (λ (xs : List (Rule × Bool)). xs ++ remaining h.version (other_rules (watch_rules (header_by j h) moment (known_judged j h k) step)))
-    (model_alike j h moment k step (step_alike (profile_of (header_by j h)) j h moment k.model step))
+    (model_alike j h moment k step le is (step_alike (profile_of (header_by j h)) j h moment k.model step))
     ∙ ap (λ (xs : List (Rule × Bool)). remaining h.version (other_rules (model_rules h moment k step)) ++ remaining h.version xs)
     (ap (λ (s : Observation). other_rules (judged_rules (header_by j h) moment k.duties s)) seen.1
     ∙ duties_alike j h moment k.duties seen.0 (observe h moment k.model step))

@@ -6,6 +6,9 @@ use Rattle.std.specs.Option.{option_map, option_map_or}
 use Rattle.std.proofs.lemmas.Bool.Decides.{nat_tests}
 use Rattle.case_forms.specs.declared.calls.Host.{Host}
 use Rattle.case_forms.specs.declared.steps.SegmentPlan.{SegmentPlan}
+use Rattle.case_forms.specs.TakenLines.{timer_of}
+use Rattle.case_forms.specs.declared.taken_line.Expired.{Expired}
+use Rattle.case_forms.specs.declared.taken_line.Expired.TheVariants as expireds
 use Rattle.case_forms.specs.declared.timer.Recovery.{Recovery}
 use Rattle.case_forms.specs.declared.trace.Header.{Header}
 use Rattle.verdict.specs.Rules.{first_broken, rule_number}
@@ -19,6 +22,7 @@ use Rattle.spec_tcp.specs.HostTcp.{HostTcp, endpoint_at, place_of}
 use Rattle.spec_tcp.specs.Machine.{tcp, tcp_shape}
 use Rattle.spec_tcp.specs.Makes.{making_rules}
 use Rattle.spec_tcp.specs.Recovery.{recovery_rules}
+use Rattle.spec_tcp.specs.Timeouts.{expiry_rules}
 use Rattle.spec_tcp.specs.declared.endpoint.Endpoint.{Endpoint}
 use Rattle.spec_tcp_laws.specs.Ascending.{ascend}
 use Rattle.spec_tcp_laws.proofs.Ascending.{rules_ascend}
@@ -26,11 +30,12 @@ use Rattle.spec_tcp_laws.proofs.Rules.{both_true, at_most_to}
 use Rattle.spec_duties.specs.declared.events.Event.TheVariants as events
 use Rattle.spec_duties.specs.declared.events.Event.{Event}
 use Rattle.spec_duties.specs.Observations.{at_place}
+use Rattle.spec_duties.specs.Resent.{judges_repeats}
 use Rattle.spec_duties.specs.declared.observations.TouchedEndpoint.{TouchedEndpoint}
 use Rattle.spec_duties.specs.Views.{view_of}
 use Rattle.spec_duties.specs.declared.views.View.{View}
-use Rattle.spec_flights.specs.Flights.{Flight, broken_at, flight_at, goes_again, judges, may_begin, may_go_again}
-use Rattle.spec_flights.specs.Marks.{old_part}
+use Rattle.spec_flights.specs.Flights.{Flight, broken_at, flight_at, goes_again, judges, may_be_probed, may_begin, may_go_again}
+use Rattle.spec_flights.specs.Probing.{is_early_probe}
 use Rattle.spec_cases.specs.Cases as cases
 use Rattle.spec_cases.specs.Cases.{Known, case_rules, model_rules, refused_at, refused_by, watch_rules, with_broken}
 use Rattle.watched.specs.Watched.{least_broken}
@@ -174,16 +179,16 @@ tops_refused (Some rule) rs top = tops_with rule rs top
 -- at an endpoint that there may be
 module _ (h : Header) (clock : ℕ) (k : Known) (host : Host) (b : HostTcp) (event : Event) (g : Endpoint → List (Rule × Bool)) where
   abbrev refusal_at : Option TouchedEndpoint → Option Rule
-  refusal_at o = if judges h then on o None (λ t. broken_at clock t.event t.before (flight_at k.flights t.host t.place)) else None
+  refusal_at o = if judges h then on o None (λ t. broken_at (judges_repeats h.congestion) clock t.event t.before (flight_at k.flights t.host t.place)) else None
 
-  among_there : ((e : Endpoint) (v : View) (f : Flight) → IsAmong (broken_at clock event v f) (g e)) → (place : Option ℕ)
+  among_there : ((e : Endpoint) (v : View) (f : Flight) → IsAmong (broken_at (judges_repeats h.congestion) clock event v f) (g e)) → (place : Option ℕ)
       → IsAmong (refusal_at (option_map_or (at_place host b event) place None)) (option_map_or g (endpoint_at b place) ((rules.NoEndpoint, true) ∷ []))
   among_there each place = judged (judges h) place
     where
       at : (i : ℕ) (o : Option Endpoint)
           → IsAmong
           (on (option_map (λ e. let t : TouchedEndpoint = record { host = host; place = i; event = event; before = view_of e } in t) o) None
-          (λ t. broken_at clock t.event t.before (flight_at k.flights t.host t.place)))
+          (λ t. broken_at (judges_repeats h.congestion) clock t.event t.before (flight_at k.flights t.host t.place)))
           (option_map_or g o ((rules.NoEndpoint, true) ∷ []))
       at i None = tt
       at i (Some e) = each e (view_of e) (flight_at k.flights host i)
@@ -191,33 +196,41 @@ module _ (h : Header) (clock : ℕ) (k : Known) (host : Host) (b : HostTcp) (eve
       judged : (j : Bool) (place : Option ℕ)
           → IsAmong
           (if j then on (option_map_or (at_place host b event) place None) None
-          (λ t. broken_at clock t.event t.before (flight_at k.flights t.host t.place)) else None)
+          (λ t. broken_at (judges_repeats h.congestion) clock t.event t.before (flight_at k.flights t.host t.place)) else None)
           (option_map_or g (endpoint_at b place) ((rules.NoEndpoint, true) ∷ []))
       judged false place = tt
       judged true None = tt
       judged true (Some i) = at i (slice_get b.endpoints i)
 
 making_among : (h : Header) (clock : ℕ) (m : SegmentPlan) (e : Endpoint) (v : View) (f : Flight)
-    → IsAmong (broken_at clock (events.Builds m) v f) (making_rules h.version e m)
-making_among h clock m e v f = by (goes v f)
+    → IsAmong (broken_at (judges_repeats h.congestion) clock (events.Builds m) v f) (making_rules h.version e m)
+making_among h clock m e v f = by (judges_repeats h.congestion && goes_again v m && not (may_go_again clock v m f))
   where
-    goes : View → Flight → Bool
-    goes v f = goes_again v m && not (may_go_again clock v f (old_part v m))
-
     by : (b : Bool) → IsAmong (if b then Some rules.OldData else None) (making_rules h.version e m)
     by true = refl
     by false = tt
 
 recovering_among : (h : Header) (clock moment : ℕ) (x : Recovery) (e : Endpoint) (v : View) (f : Flight)
-    → IsAmong (broken_at clock events.Recovers v f) (recovery_rules h.version e x.change x.cwnd x.ssthresh moment)
-recovering_among h clock moment x e v f = by (begins v f)
+    → IsAmong (broken_at (judges_repeats h.congestion) clock events.Recovers v f) (recovery_rules h.version e x.change x.cwnd x.ssthresh moment)
+recovering_among h clock moment x e v f = by (judges_repeats h.congestion && not (may_begin clock v f))
   where
-    begins : View → Flight → Bool
-    begins v f = may_begin clock v f
+    by : (b : Bool) → IsAmong (if b then Some rules.Recovery else None) (recovery_rules h.version e x.change x.cwnd x.ssthresh moment)
+    by true = refl
+    by false = tt
 
-    by : (b : Bool) → IsAmong (if b then None else Some rules.Recovery) (recovery_rules h.version e x.change x.cwnd x.ssthresh moment)
-    by true = tt
-    by false = refl
+expiring_among : (h : Header) (clock moment : ℕ) (x : Expired) (e : Endpoint) (v : View) (f : Flight)
+    → IsAmong (broken_at (judges_repeats h.congestion) clock (events.Expires (timer_of x)) v f) (expiry_rules h moment e x)
+expiring_among h clock moment (expireds.Rto growth) e v f = tt
+expiring_among h clock moment expireds.Persist e v f = tt
+expiring_among h clock moment expireds.Msl2 e v f = tt
+expiring_among h clock moment expireds.Giveup e v f = tt
+expiring_among h clock moment expireds.Pto e v f = by (may_be_probed v f) (is_early_probe clock v f.probing.quiet)
+  where
+    by : (may early : Bool)
+        → IsAmong (if not may then Some rules.TimerOff else if early then Some rules.TimerEarly else None) (expiry_rules h moment e expireds.Pto)
+    by false early = refl
+    by true true = refl
+    by true false = tt
 
 pub refused_among : (h : Header) (moment : ℕ) (k : Known) (step : Step tcp_shape)
     → IsAmong (refused_by h moment k step) (step_rules (tcp h) moment k.model step)
@@ -238,7 +251,9 @@ refused_among h moment k (At host d) = at d
     at (Does x) =
         among_there h clock k host b events.Recovers (λ e. recovery_rules h.version e x.change x.cwnd x.ssthresh moment)
         (recovering_among h clock moment x) (place_of b x.lport x.rport)
-    at (Expires line x) = tt
+    at (Expires line x) =
+        among_there h clock k host b (events.Expires (timer_of x.expired)) (λ e. expiry_rules h moment e x.expired)
+        (expiring_among h clock moment x.expired) (place_of b x.lport x.rport)
     at (Sends line number wire) = tt
     at (Gets line copied wire) = tt
     at (Hears line wire) = tt

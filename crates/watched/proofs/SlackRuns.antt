@@ -68,7 +68,7 @@ module _ (x y : Option ℕ) (h : Header) where
       at : (d : HostStep tcp_shape) → refused_at two moment many host d ≡ refused_at one moment few host d
       at (Makes m) = by (Makes m)
       at (Does x) = by (Does x)
-      at (Expires line x) = refl
+      at (Expires line x) = by (Expires line x)
       at (Sends line number wire) = refl
       at (Gets line copied wire) = refl
       at (Hears line wire) = refl

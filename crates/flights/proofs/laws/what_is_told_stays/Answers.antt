@@ -1,5 +1,5 @@
 use Rattle.std.proofs.Common.{◌≡◌, ℕ, Bool, true, false, not, ◌&&◌, ◌||◌, List, [], ◌∷◌, refl, sym, ap, ◌∙◌}
-use Rattle.std.specs.Prelude.{None, Some, if◌then◌else◌, nat_lt, slice_get}
+use Rattle.std.specs.Prelude.{None, Some, ◌+◌, if◌then◌else◌, nat_eq, nat_lt, slice_get}
 use Rattle.std.specs.FinSet.{contains, from_list}
 use Rattle.std.specs.List.{list_all, list_any}
 use Rattle.std.specs.Option.{option_flatten, option_map_or}
@@ -7,9 +7,12 @@ use Rattle.std.specs.Ordering.{nat_cmp}
 use Rattle.std.proofs.lemmas.Option.{none-some}
 use Rattle.verdict.specs.declared.rule.Rule.TheVariants as rules
 use Rattle.streams.specs.Ranges.{covers, meets, positions}
+use Rattle.case_forms.specs.declared.steps.SegmentPlan.{SegmentPlan}
+use Rattle.spec_tcp.specs.Makes.Payload.{making_length}
 use Rattle.spec_duties.specs.declared.views.View.{View}
-use Rattle.spec_flights.specs.Flights.{Flight, are_free, free_below, goes_again, is_free, is_rescue, may_go_again, sends_nothing_new}
+use Rattle.spec_flights.specs.Flights.{Flight, are_free, free_below, goes_again, is_free, is_probe, is_rescue, may_go_again, sends_nothing_new}
 use Rattle.spec_flights.specs.Late.{has_below, resent_below}
+use Rattle.spec_flights.specs.Probing.{is_due}
 use Rattle.spec_flights.specs.Recovering.{is_repairing}
 use Rattle.spec_flights.specs.Sides.{are_selective}
 use Rattle.spec_flights.specs.Marks.{old_part}
@@ -73,14 +76,24 @@ rescue_untold clock v f old is =
     (not (meets (from_list f.board.told) old.from old.upto)) (covers (from_list f.board.told) old.upto v.snd_max)
     (not (has_below (resent_below true clock f.board) v f.board)) is)
 
-may_untold : (clock : ℕ) (v : View) (f : Flight) (old : Stretch) → f.recovery.is_fast ≡ true → may_go_again clock v f old ≡ true
-    → meets (from_list f.board.told) old.from old.upto ≡ false
-may_untold clock v f old fast is = by (are_free (free_below clock v f) f old) refl is
+probe_untold : (due end told : Bool) → (due && end && not told) ≡ true → told ≡ false
+probe_untold false end told is = let no : false ≡ true = is in absurd cc
+probe_untold true false told is = let no : false ≡ true = is in absurd cc
+probe_untold true true told is = not_true told is
+
+may_untold : (clock : ℕ) (v : View) (m : SegmentPlan) (f : Flight) → f.recovery.is_fast ≡ true → may_go_again clock v m f ≡ true
+    → meets (from_list f.board.told) (old_part v m).from (old_part v m).upto ≡ false
+may_untold clock v m f fast is = by (are_free (free_below clock v f) f old) (is_probe v m f) refl refl is
   where
-    by : (free : Bool) → are_free (free_below clock v f) f old ≡ free → (free || is_rescue clock v f old) ≡ true
-        → meets (from_list f.board.told) old.from old.upto ≡ false
-    by true free is = free_untold (free_below clock v f) f old fast free
-    by false free is = rescue_untold clock v f old is
+    old : Stretch
+    old = old_part v m
+
+    by : (free probe : Bool) → are_free (free_below clock v f) f old ≡ free → is_probe v m f ≡ probe
+        → (free || probe || is_rescue clock v f old) ≡ true → meets (from_list f.board.told) old.from old.upto ≡ false
+    by true probe free sent is = free_untold (free_below clock v f) f old fast free
+    by false true free sent is =
+        probe_untold (is_due f.probing.probe) (nat_eq (m.pos + making_length m) v.snd_max) (meets (from_list f.board.told) old.from old.upto) sent
+    by false false free sent is = rescue_untold clock v f old is
 
 may_of : (again may : Bool) → again ≡ true → (if again && not may then Some rules.OldData else None) ≡ None → may ≡ true
 may_of false may is none = let no : false ≡ true = is in absurd cc
@@ -89,4 +102,4 @@ may_of true false is none = absurd (none-some rules.OldData (sym none))
 
 pub returns : goal.returns
 returns c clock m v f fast again none =
-    may_untold clock v f (old_part v m) fast (may_of (goes_again v m) (may_go_again clock v f (old_part v m)) again none)
+    may_untold clock v m f fast (may_of (goes_again v m) (may_go_again clock v m f) again none)

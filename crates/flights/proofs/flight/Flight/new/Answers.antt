@@ -3,4 +3,4 @@ use Rattle.flights.proofs.SetLemmas.{none_in}
 use Rattle.flights.proofs.flight.Flight.new.Goals as goal
 
 pub returns : goal.returns
-returns c = rw (c.neither.ensures, c.none_begun.ensures, c.new.ensures, c.new-2.ensures, none_in) refl
+returns c = rw (c.neither.ensures, c.none_begun.ensures, c.new.ensures, c.new-2.ensures, c.not_probing.ensures, none_in) refl

@@ -34,6 +34,7 @@ returns c =
       marks = marks;
       board = c.self.inside.board;
       rescued = c.self.inside.rescued;
+      probing = c.self.inside.probing;
     }
 
     left : (taken marked : Stretch) → List ℕ
