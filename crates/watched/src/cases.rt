@@ -324,7 +324,7 @@ fn judge_line(
         TakenLine::Expired { .. } => {
             let seen = observe_line(world, moment, &taken);
             let refusal = flights.refusal(world.header(), moment, &seen);
-            watch_step(world, flights, duties, moment, taken, &seen, refusal)
+            watch_step(world, flights, duties, moment, taken, &seen, refused(refusal))
         }
         TakenLine::CallBegin { .. }
         | TakenLine::CallEnd { .. }
