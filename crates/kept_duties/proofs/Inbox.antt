@@ -115,7 +115,8 @@ module _ (h : Header) (slack n : ℕ) (acts : ℕ → Option (Stamped tcp_shape)
         leaving g shows takes =
             let m = leaves_waits h y.moment (known j).model y.step g line goes.permitted takes in
             let same : g ≡ host = same_host j (omega (arith, less)) g m.0 m.1 in
-            let fine = (none_all (duty_rules h slack y.moment d (untrue_at h (known j) y.step) (observe h y.moment (known j).model y.step)) goes.dutiful).1.1.0 in
+            let untrue = untrue_at h (known j) y.step in
+            let fine = (none_all (duty_rules h slack y.moment d untrue (observe h y.moment (known j).model y.step)) goes.dutiful).1.1.0 in
             inl (record {
               place = j;
               act = y;

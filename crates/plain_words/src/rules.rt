@@ -458,7 +458,7 @@ memory pressure",
         },
         Rule::SackUntrue => &Meaning {
             refused: "the host reports data that it doesn't hold, or its peer didn't permit such reports",
-            usual: "the stack builds a SACK block with wrong edges, or of data that it discarded, or without permission",
+            usual: "the stack builds a SACK block with wrong edges, or without permission, or of what it discarded",
             captured: "the capture lost a received segment",
             rfc: "2018, 2 to 4",
             ..PLAIN

@@ -23,7 +23,7 @@ pub(crate) fn untrue(
     };
     match scene.flights.why_untrue(id, endpoint, bytes) {
         Some(Untrue::NotPermitted) => out.push_str(
-            "it has a SACK block, and the peer's SYN didn't permit selective acknowledgments\n",
+            "it has a SACK block, though the peer's SYN doesn't permit any\n",
         ),
         Some(Untrue::Block(place)) => say_block(out, endpoint, bytes, place),
         None => Ok(()),
@@ -46,8 +46,9 @@ fn say_block(
     match (left, right) {
         (Some(left), Some(right)) if left < right => writeln!(
             out,
-            "block {number} reports the positions from {left} to before {right}; next in order is {next}, and the \
-endpoint doesn't hold all that it reports from there on"
+            "block {number} reports the positions {left} to {}; from RCV.NXT on, which is {next}, the endpoint doesn't \
+hold all of them",
+            right - 1
         ),
         _ => writeln!(
             out,
