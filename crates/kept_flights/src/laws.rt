@@ -1,0 +1,22 @@
+//! What a run whose steps aren't refused says of data in flight.
+
+use flights::what_is_told_stays;
+
+ghost use Rattle.std.specs.Prelude.{◌≡◌, List, true};
+ghost use Rattle.case_forms.specs.Versions.{says_sender};
+ghost use Rattle.case_forms.specs.declared.trace.Header.{Header};
+ghost use Rattle.spec_network.specs.Hosts.{Stamped};
+ghost use Rattle.spec_tcp.specs.Machine.{tcp_shape};
+ghost use Rattle.spec_duties.specs.Resent.{judges_repeats};
+ghost use Rattle.spec_cases.specs.Cases.{Dutiful, first_known};
+ghost use Rattle.kept_flights.specs.Reported.{WhatWasReportedStays};
+
+/// In version 6, at `congestion full` or `recovery`: once an endpoint began fast recovery, and until its retransmission
+/// timer expires, it builds no segment again with a position that a block reported to it, unless it built the position
+/// since (RFC 2018, 5 and 8; RFC 6675, 4, NextSeg).
+pub fn what_was_reported_stays()
+    ensures { (h : Header) (xs : List (Stamped tcp_shape)) → says_sender h.version ≡ true
+        → judges_repeats h.congestion ≡ true → Dutiful h (first_known h) xs → WhatWasReportedStays h xs }
+{
+    what_is_told_stays()
+}
