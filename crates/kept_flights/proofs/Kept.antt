@@ -20,14 +20,18 @@ use Rattle.spec_duties.specs.declared.observations.Blocks.{Blocks}
 use Rattle.spec_duties.specs.declared.observations.SynChange.{SynChange}
 use Rattle.spec_duties.specs.declared.observations.SynChange.TheVariants as syn_change
 use Rattle.spec_duties.specs.declared.views.View.{View}
-use Rattle.spec_flights.specs.Delivered.{Reports, heard, read_reports, report_of, with_reports}
+use Rattle.spec_flights.specs.Delivered.{heard, read_reports, report_of, with_reports}
 use Rattle.spec_flights.specs.Flights.{board_after, board_heard, board_opened}
 use Rattle.spec_flights.specs.Late.{settled}
 use Rattle.spec_flights.specs.Marks.{opens_probed}
-use Rattle.spec_flights.specs.Recovering.{Recovery, recovery_after}
+use Rattle.spec_flights.specs.Recovering.{recovery_after}
 use Rattle.spec_flights.specs.Scoreboard.{Scoreboard, stretch_built, with_built, with_given_up}
-use Rattle.spec_flights.specs.Sides.{Sides, are_selective, sides_after}
-use Rattle.spec_flights.specs.Stretches.{Stretch, no_positions}
+use Rattle.spec_flights.specs.Sides.{are_selective, sides_after}
+use Rattle.spec_flights.specs.Stretches.{no_positions}
+use Rattle.spec_flights.specs.declared.recovery.Recovery.{Recovery}
+use Rattle.spec_flights.specs.declared.reports.Reports.{Reports}
+use Rattle.spec_flights.specs.declared.sides.Sides.{Sides}
+use Rattle.spec_flights.specs.declared.stretch.Stretch.{Stretch}
 use Rattle.flights.proofs.SetLemmas.{read_back}
 use Rattle.kept_flights.specs.Reported.{Holds, is_within, reports}
 

@@ -80,7 +80,7 @@ module _ (Q : Flight → Type 0) where
       → Q (flight_after moment (moment + h.grain) s (touched me event before) (seen w me) (flight_in fs me)))
       → Q (flight_in (flown h moment w s fs) me)
   step_keeps h moment s w fs me six old new =
-      subst (λ (b : Bool). Q (flight_in (if b then on s.touched fs (flights_touched moment (moment + h.grain) s (view_in w s.touched)) else fs) me))
+      subst (λ (b : Bool). Q (flight_in (if b then on s.touched fs (flights_touched moment (moment + h.grain) s (view_in w s.touched) fs) else fs) me))
       (sym six) (by s.touched refl)
     where
       by : (o : Option TouchedEndpoint) → s.touched ≡ o

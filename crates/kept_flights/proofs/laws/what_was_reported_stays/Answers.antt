@@ -6,6 +6,8 @@ use Rattle.spec_tcp.specs.Machine.{tcp_shape}
 use Rattle.spec_duties.specs.Resent.{judges_repeats}
 use Rattle.spec_cases.specs.Cases.{Dutiful, first_known}
 use Rattle.kept_flights.specs.Reported.{WhatWasReportedStays}
+use Rattle.kept_flights.proofs.Kept.{board_begins}
+use Rattle.kept_flights.proofs.Runs.{onward}
 use Rattle.kept_flights.proofs.laws.what_was_reported_stays.Goals as goal
 
 -- src/laws.rt:17:1
