@@ -1,5 +1,5 @@
 -- A position that was reported, through the steps of a run.
-use Rattle.std.proofs.Common.{◌≡◌, ℕ, suc, ◌+◌, ◌<◌, ◌≤◌, min, Bool, true, false, length, List, Option, Some, None, refl, ap, sym, subst, ◌∙◌, arith}
+use Rattle.std.proofs.Common.{◌≡◌, ℕ, suc, ◌+◌, ◌<◌, ◌≤◌, min, Bool, true, false, List, [], ◌∷◌, ◌++◌, length, Option, Some, None, refl, ap, sym, subst, ◌∙◌, arith}
 use Rattle.std.specs.Prelude.{◌&&◌, ◌||◌, if◌then◌else◌, nat_le, nat_lt, not, slice_get}
 use Rattle.std.specs.Cmp.{nat_cmp_total}
 use Rattle.std.specs.FinSet.{FinSet, contains, contains-difference, contains-union, difference, from_list, items, union}
@@ -8,7 +8,7 @@ use Rattle.std.proofs.lemmas.Bool.Decides.{nat_tests}
 use Rattle.case_forms.specs.States.{is_syn_sent}
 use Rattle.case_forms.specs.declared.steps.SegmentPlan.{SegmentPlan}
 use Rattle.case_forms.specs.declared.timer.Timer.TheVariants.{Persist, Rto}
-use Rattle.streams.specs.Pieces.{acknowledged}
+use Rattle.streams.specs.Pieces.{acknowledged, known_from, made}
 use Rattle.streams.specs.Ranges.{span}
 use Rattle.streams.proofs.RangeLemmas.{contains-span}
 use Rattle.spec_tcp.specs.Makes.Payload.{making_length}
@@ -25,7 +25,7 @@ use Rattle.spec_flights.specs.Flights.{board_after, board_heard, board_opened}
 use Rattle.spec_flights.specs.Late.{settled}
 use Rattle.spec_flights.specs.Marks.{opens_probed}
 use Rattle.spec_flights.specs.Recovering.{recovery_after}
-use Rattle.spec_flights.specs.Scoreboard.{Scoreboard, stretch_built, with_built, with_given_up}
+use Rattle.spec_flights.specs.Scoreboard.{Scoreboard, left_without, stretch_built, with_built, with_given_up}
 use Rattle.spec_flights.specs.Sides.{are_selective, sides_after}
 use Rattle.spec_flights.specs.Stretches.{no_positions}
 use Rattle.spec_flights.specs.declared.recovery.Recovery.{Recovery}
@@ -50,15 +50,15 @@ own_begins s = by s.own
 
 pub peers_keeps : (c : SynChange) (s : Sides) → ((alone : Bool) → c ≡ syn_change.Takes false alone → ⊥) → s.peers ≡ true
     → (sides_after c s).peers ≡ true
-peers_keeps (syn_change.Takes true alone) s no is = refl
-peers_keeps (syn_change.Takes false alone) s no is = absurd (no alone refl)
-peers_keeps c s no is = is
+peers_keeps (syn_change.Takes true alone) s none is = refl
+peers_keeps (syn_change.Takes false alone) s none is = absurd (none alone refl)
+peers_keeps c s none is = is
 
 pub fast_keeps : (event : Event) (after : View) (r : Recovery) → (event ≡ Expires Rto → ⊥) → r.is_fast ≡ true
     → (recovery_after event after r).is_fast ≡ true
-fast_keeps (Expires Rto) after r no is = absurd (no refl)
-fast_keeps Recovers after r no is = refl
-fast_keeps event after r no is = by (nat_le r.point after.snd_una)
+fast_keeps (Expires Rto) after r none is = absurd (none refl)
+fast_keeps Recovers after r none is = refl
+fast_keeps event after r none is = by (nat_le r.point after.snd_una)
   where
     by : (b : Bool) → (if b then record r { point = 0 } else r).is_fast ≡ true
     by true = is
@@ -101,37 +101,37 @@ module _ (p : ℕ) where
   abbrev pub Told : Scoreboard → Type 0
   Told b = contains {K = ℕ} {R = nat_cmp} (from_list b.told) p ≡ true
 
+  either_told : (b : Bool) (x y : Scoreboard) → Told x → Told y → Told (if b then x else y)
+  either_told true x y here there = here
+  either_told false x y here there = there
+
   opened_keeps : (before after : View) (b : Scoreboard) → Told b → Told (board_opened before after b)
-  opened_keeps before after b is = by (opens_probed before after)
-    where
-      by : (o : Bool) → Told (if o then with_given_up b else b)
-      by true = is
-      by false = is
+  opened_keeps before after b is = either_told (opens_probed before after) (with_given_up b) b is is
 
   acked : (ack : ℕ) → ack ≤ p → holds (record { from = 0; upto = ack }) ≡ false
   acked ack low = grind (arith, nat_tests, low)
 
   segment_keeps : (moment clock : ℕ) (recovers rst : Bool) (before after : View) (r : Reports) (b : Scoreboard) → after.snd_una ≤ p → Told b
       → Told (board_heard moment clock recovers rst before after r b)
-  segment_keeps moment clock recovers rst before after r b low is = by (rst || is_syn_sent before.state) refl
-    where
-      by : (c : Bool) → (rst || is_syn_sent before.state) ≡ c → Told (board_heard moment clock recovers rst before after r b)
-      by true c = subst (λ (d : Bool). Told (if d then _ else heard moment before.snd_una after.snd_una r (settled recovers clock b))) (sym c) is
-      by false c =
-          subst (λ (d : Bool). Told (if d then _ else heard moment before.snd_una after.snd_una r (settled recovers clock b))) (sym c)
-          (left_keeps (with_reports (from_list b.told) r) (record { from = 0; upto = after.snd_una }) (reports_keep (from_list b.told) r is)
-          (acked after.snd_una low))
+  segment_keeps moment clock recovers rst before after r b low is =
+      either_told (rst || is_syn_sent before.state) (record b { known = known_from after.snd_una b.known })
+      (heard moment before.snd_una after.snd_una r (settled recovers clock b)) is
+      (left_keeps (with_reports (from_list b.told) r) (record { from = 0; upto = after.snd_una }) (reports_keep (from_list b.told) r is)
+      (acked after.snd_una low))
 
   built_keeps : (number moment : ℕ) (s : Stretch) (b : Scoreboard) → holds s ≡ false → Told b → Told (with_built number moment s b)
-  built_keeps number moment s b out is = by (nat_lt s.from s.upto && nat_le (acknowledged b.known) s.from && nat_le s.from (length b.known)) refl
-    where
-      by : (c : Bool) → (nat_lt s.from s.upto && nat_le (acknowledged b.known) s.from && nat_le s.from (length b.known)) ≡ c
-          → Told (with_built number moment s b)
-      by true c = subst (λ (d : Bool). Told (if d then _ else b)) (sym c) (left_keeps (from_list b.told) s is out)
-      by false c = subst (λ (d : Bool). Told (if d then _ else b)) (sym c) is
+  built_keeps number moment s b out is =
+      either_told (nat_lt s.from s.upto && nat_le (acknowledged b.known) s.from && nat_le s.from (length b.known))
+      (record b {
+        known = made s.from s.upto number moment b.known;
+        told = left_without b.told s.from s.upto;
+        ends = left_without b.ends s.from s.upto;
+        built = b.built ++ record { number = number; moment = moment } ∷ [];
+        newest = number;
+      }) b (left_keeps (from_list b.told) s is out) is
 
   stretch_out : (m : SegmentPlan) (before after : View) → (Holds m p → ⊥) → holds (stretch_built m before after) ≡ false
-  stretch_out m before after no = by (is_fin_alone m before)
+  stretch_out m before after none = by (is_fin_alone m before)
     where
       by : (f : Bool) → holds (if f then no_positions else record { from = m.pos; upto = min (m.pos + making_length m) after.snd_max }) ≡ false
       by true = grind (arith, nat_tests)
@@ -142,20 +142,20 @@ module _ (p : ℕ) where
           test true is =
               let low : m.pos ≤ p = grind (arith, nat_tests, is) in
               let high : p < m.pos + making_length m = grind (arith, nat_tests, is) in
-              absurd (no (low, high))
+              absurd (none (low, high))
 
   pub board_keeps : (moment clock : ℕ) (recovers : Bool) (number : ℕ) (event : Event) (before after : View) (r : Reports) (b : Scoreboard)
       → after.snd_una ≤ p → ((m : SegmentPlan) → event ≡ Builds m → Holds m p → ⊥) → Told b
       → Told (board_after moment clock recovers number event before after r b)
-  board_keeps moment clock recovers number (Processes length rst) before after r b low no is =
+  board_keeps moment clock recovers number (Processes length rst) before after r b low none is =
       opened_keeps before after (board_heard moment clock recovers rst before after r b)
       (segment_keeps moment clock recovers rst before after r b low is)
-  board_keeps moment clock recovers number (Builds m) before after r b low no is =
-      built_keeps number moment (stretch_built m before after) (settled recovers clock b) (stretch_out m before after (no m refl)) is
-  board_keeps moment clock recovers number (Expires Rto) before after r b low no is = is
-  board_keeps moment clock recovers number (Expires Persist) before after r b low no is = is
-  board_keeps moment clock recovers number Recovers before after r b low no is = is
-  board_keeps moment clock recovers number event before after r b low no is = is
+  board_keeps moment clock recovers number (Builds m) before after r b low none is =
+      built_keeps number moment (stretch_built m before after) (settled recovers clock b) (stretch_out m before after (none m refl)) is
+  board_keeps moment clock recovers number (Expires Rto) before after r b low none is = is
+  board_keeps moment clock recovers number (Expires Persist) before after r b low none is = is
+  board_keeps moment clock recovers number Recovers before after r b low none is = is
+  board_keeps moment clock recovers number event before after r b low none is = is
 
   -- ---- what is reported now
 
@@ -188,12 +188,31 @@ module _ (p : ℕ) where
       by false false true a c d all = union_keeps _ (report_of b.fourth) (union_adds _ (report_of b.third) (block_holds b.third d))
       by false false false a c d all = union_adds _ (report_of b.fourth) (block_holds b.fourth all)
 
+  read_add : (held : FinSet nat_cmp) (sides : Sides) (b : Blocks) → are_selective sides ≡ true → reports b p ≡ true
+      → contains (with_reports held (read_reports sides b)) p ≡ true
+  read_add held sides b both is = by (are_selective sides) both
+    where
+      by : (c : Bool) → c ≡ true
+          → contains (with_reports held (if c then record {
+            first = report_of b.first;
+            second = report_of b.second;
+            third = report_of b.third;
+            fourth = report_of b.fourth;
+          } else record { first = no_positions; second = no_positions; third = no_positions; fourth = no_positions })) p ≡ true
+      by true c = reports_add held b is
+      by false c = absurd cc
+
   pub board_begins : (moment clock : ℕ) (recovers : Bool) (number length : ℕ) (before after : View) (sides : Sides) (k : Blocks) (b : Scoreboard)
       → after.snd_una ≤ p → is_syn_sent before.state ≡ false → are_selective sides ≡ true → reports k p ≡ true
       → Told (board_after moment clock recovers number (Processes length false) before after (read_reports sides k) b)
-  board_begins moment clock recovers number length before after sides k b low open' both is =
+  board_begins moment clock recovers number length before after sides k b low begun both is =
       opened_keeps before after (board_heard moment clock recovers false before after (read_reports sides k) b)
-      (subst (λ (d : Bool). Told (if d then _ else heard moment before.snd_una after.snd_una (read_reports sides k) (settled recovers clock b))) (sym open')
-      (left_keeps (with_reports (from_list b.told) (read_reports sides k)) (record { from = 0; upto = after.snd_una })
-      (subst (λ (d : Bool). contains (with_reports (from_list b.told) (if d then _ else _)) p ≡ true) (sym both) (reports_add (from_list b.told) k is))
-      (acked after.snd_una low)))
+      (by (is_syn_sent before.state) begun)
+    where
+      by : (c : Bool) → c ≡ false
+          → Told (if c then record b { known = known_from after.snd_una b.known }
+          else heard moment before.snd_una after.snd_una (read_reports sides k) (settled recovers clock b))
+      by true c = absurd cc
+      by false c =
+          left_keeps (with_reports (from_list b.told) (read_reports sides k)) (record { from = 0; upto = after.snd_una })
+          (read_add (from_list b.told) sides k both is) (acked after.snd_una low)
