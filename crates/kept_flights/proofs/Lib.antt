@@ -1,2 +1,4 @@
 pub mod Runs
 pub mod Kept
+pub mod Taking
+pub mod Stays

@@ -75,8 +75,8 @@ pub record HasBegunRecovery (h : Header) (xs : List (Stamped tcp_shape)) (place 
   pub begun_before : begun < place
   pub before : View
   pub begins : Happens (observed h xs begun) me Recovers before
-  pub no_timeout : (later : ℕ) (then : View) → begun < later → later < place
-      → Happens (observed h xs later) me (Expires Rto) then → ⊥
+  pub no_timeout : (later : ℕ) (view : View) → begun < later → later < place
+      → Happens (observed h xs later) me (Expires Rto) view → ⊥
 
 -- by the `M` step at this place, the endpoint builds a segment with positions that it sent before, and not a FIN alone
 pub record BuildsAgain (h : Header) (xs : List (Stamped tcp_shape)) (place : ℕ) (me : EndpointId) (m : SegmentPlan)
