@@ -1,4 +1,5 @@
 pub mod Runs
 pub mod Kept
+pub mod Positions
 pub mod Taking
 pub mod Stays
