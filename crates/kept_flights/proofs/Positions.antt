@@ -18,7 +18,8 @@ use Rattle.spec_tcp_laws.specs.Consequences.{find}
 use Rattle.spec_tcp_laws.specs.Transitions.{ByAbort, ByClose, ByListener, ByOwnReset, ByReset, BySegment, ByTimer, MayLead, Stays, StaysOr}
 use Rattle.spec_tcp_laws.specs.Transitions.{close_leads, fin_leads, segment_leads}
 use Rattle.spec_tcp_laws.proofs.Transitions.{none_falls, states_lead}
-use Rattle.kept_flights.specs.Places.{world_before}
+use Rattle.spec_duties.specs.Views.{unborn, view_of}
+use Rattle.kept_flights.specs.Places.{seen_before, world_before}
 use Rattle.kept_flights.proofs.Runs.{onward}
 
 -- ---- no step leads to SYN-SENT
@@ -139,3 +140,14 @@ module _ (h : Header) (xs : List (Stamped tcp_shape)) (lawful : Lawful (tcp h) (
       onward (λ place. Became h xs e place me) from to le
       (record { now = e; there = there; una = omega arith; made = omega arith; answered = λ was. was })
       (λ place low high b. next e place b)
+
+  -- so the oldest unacknowledged position never falls
+  pub una_rises : (from to : ℕ) → from ≤ to → (seen_before h xs from me).snd_una ≤ (seen_before h xs to me).snd_una
+  una_rises from to le = by (find (world_before h xs from).hosts me) refl
+    where
+      by : (o : Option Endpoint) → find (world_before h xs from).hosts me ≡ o
+          → (option_map_or view_of o unborn).snd_una ≤ (seen_before h xs to me).snd_una
+      by None is = omega arith
+      by (Some e) is =
+          let b = becomes from to le e is in
+          subst (λ (o : Option Endpoint). e.stream.snd_una ≤ (option_map_or view_of o unborn).snd_una) (sym b.there) b.una

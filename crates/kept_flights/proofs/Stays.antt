@@ -14,8 +14,10 @@ use Rattle.verdict.specs.declared.rule.Rule.{Rule}
 use Rattle.streams.specs.Ranges.{meets}
 use Rattle.streams.proofs.RangeLemmas.{meets_none}
 use Rattle.spec_network.specs.Hosts.{At, HostStep, Makes, Stamped, Takes, World}
+use Rattle.spec_network.specs.HostSteps.{Lawful, start}
 use Rattle.spec_network.specs.Tables.{on}
-use Rattle.spec_tcp.specs.Machine.{tcp_shape}
+use Rattle.spec_tcp.specs.Machine.{tcp, tcp_shape}
+use Rattle.spec_tcp.specs.Endpoints.{snd_max}
 use Rattle.spec_tcp.specs.Makes.Payload.{making_length}
 use Rattle.spec_tcp.specs.declared.endpoint.EndpointId.{EndpointId}
 use Rattle.spec_duties.specs.Observations.{observe, unseen}
@@ -36,7 +38,9 @@ use Rattle.flights.specs.Promises.{WhatIsToldStays}
 use Rattle.kept_flights.specs.Places.{Happens, IsStep, observed, seen_before, world_before}
 use Rattle.kept_flights.specs.Reported.{BothPermit, BuildsAgain, HasBegunRecovery, HasSyn, IsReported, StaysOut, WhatWasReportedStays, reports}
 use Rattle.kept_flights.proofs.Kept.{Told, board_begins, board_keeps, fast_keeps, own_begins, own_keeps, peers_keeps}
-use Rattle.kept_flights.proofs.Taking.{Read, reads}
+use Rattle.kept_flights.proofs.Positions.{becomes, una_rises}
+use Rattle.kept_flights.proofs.Syns.{taken_once}
+use Rattle.kept_flights.proofs.Taking.{Read, built_there, reads}
 use Rattle.kept_flights.proofs.Runs.{dutiful_there, flight_before, known_before, model_is, place_makes, run_keeps, touched}
 
 -- what happens at an endpoint is one thing
@@ -46,7 +50,8 @@ one_event s me event other before other_before here there =
     let one : touched me event before ≡ touched me other other_before = same_Some (touched me event before) (touched me other other_before) (sym here ∙ there) in
     (ap (λ (t : TouchedEndpoint). t.event) one, ap (λ (t : TouchedEndpoint). t.before) one)
 
-module _ (h : Header) (xs : List (Stamped tcp_shape)) (me : EndpointId) (six : says_sender h.version ≡ true) where
+module _ (h : Header) (xs : List (Stamped tcp_shape)) (me : EndpointId) (six : says_sender h.version ≡ true)
+    (lawful : Lawful (tcp h) (start (tcp h)) xs) where
   -- what a step shows, if it is known
   shown : (place : ℕ) (host_step : HostStep tcp_shape) (step : IsStep xs place me.host host_step)
       → observed h xs place ≡ observe h step.0 (world_before h xs place) (At me.host host_step)
@@ -63,15 +68,14 @@ module _ (h : Header) (xs : List (Stamped tcp_shape)) (me : EndpointId) (six : s
       (λ place low high is moment clock event before here. own_keeps (observed h xs place).syn_change (flight_before h xs place me).sides is)
 
   peers : (from to : ℕ) (alone : Bool) → from < to → HasSyn h xs from me (syn_change.Takes true alone)
-      → ((later : ℕ) (alone : Bool) → from < later → later < to → HasSyn h xs later me (syn_change.Takes false alone) → ⊥)
       → (flight_before h xs to me).sides.peers ≡ true
-  peers from to alone less syn last =
+  peers from to alone less syn =
       run_keeps h xs six (λ f. f.sides.peers ≡ true) me (suc from) to (omega (arith, less))
       (place_makes h xs six (λ f. f.sides.peers ≡ true) me from syn.0 syn.1 syn.2 (λ moment clock event before here.
       ap (λ (c : SynChange). (sides_after c (flight_before h xs from me).sides).peers) syn.3))
       (λ place low high is moment clock event before here.
       peers_keeps (observed h xs place).syn_change (flight_before h xs place me).sides
-      (λ other change. last place other (omega (arith, low)) high (event, before, here, change)) is)
+      (λ other change. taken_once h xs me lawful from place (omega (arith, low)) true alone false other syn (event, before, here, change)) is)
 
   selective : (place : ℕ) → BothPermit h xs place me → (event : Event) (before : View) → Happens (observed h xs place) me event before
       → are_selective (sides_after (observed h xs place).syn_change (flight_before h xs place me).sides) ≡ true
@@ -79,8 +83,8 @@ module _ (h : Header) (xs : List (Stamped tcp_shape)) (me : EndpointId) (six : s
       let mine = own_keeps (observed h xs place).syn_change (flight_before h xs place me).sides (own b.sent place b.sent_before b.sends) in
       let theirs =
       peers_keeps (observed h xs place).syn_change (flight_before h xs place me).sides
-      (λ other change. b.last place other b.taken_before (omega arith) (event, before, here, change))
-      (peers b.taken place b.alone b.taken_before b.takes (λ later other low high. b.last later other low (omega (arith, high)))) in
+      (λ other change. taken_once h xs me lawful b.taken place b.taken_before true b.alone false other b.takes (event, before, here, change))
+      (peers b.taken place b.alone b.taken_before b.takes) in
       (λ i. mine i && theirs i)
 
   -- ---- fast recovery
@@ -99,11 +103,19 @@ module _ (h : Header) (xs : List (Stamped tcp_shape)) (me : EndpointId) (six : s
 
   -- ---- the position
 
+  read_there : (place position : ℕ) → IsReported h xs place me position → (event : Event) (before : View)
+      → Happens (observed h xs place) me event before → Read (world_before h xs place) me event before position
+  read_there place position r event before here =
+      let is = shown place (Takes r.line r.choice) r.step in
+      reads h r.step.0 (world_before h xs place) r.line r.choice me event before position
+      (subst (λ (s : Observation). Happens s me event before) is here)
+      (subst (λ (s : Observation). reports s.blocks position ≡ true) is r.reports)
+
   begins : (place position : ℕ) → (seen_before h xs (suc place) me).snd_una ≤ position → BothPermit h xs place me
       → IsReported h xs place me position → Told position (flight_before h xs (suc place) me).board
   begins place position low permit r =
       place_makes h xs six (λ f. Told position f.board) me place r.event r.before r.happens (λ moment clock event before here.
-      let read = read_there event before here in
+      let read = read_there place position r event before here in
       subst
       (λ (e : Event). Told position (board_after moment clock (is_recovering before (flight_before h xs place me).recovery)
       (number_built (observed h xs place).built_change) e before (seen_before h xs (suc place) me)
@@ -113,26 +125,42 @@ module _ (h : Header) (xs : List (Stamped tcp_shape)) (me : EndpointId) (six : s
       (number_built (observed h xs place).built_change) read.length before (seen_before h xs (suc place) me)
       (sides_after (observed h xs place).syn_change (flight_before h xs place me).sides) (observed h xs place).blocks
       (flight_before h xs place me).board low read.answered (selective place permit event before here) r.reports))
-    where
-      read_there : (event : Event) (before : View) → Happens (observed h xs place) me event before → Read event before
-      read_there event before here =
-          let is = shown place (Takes r.line r.choice) r.step in
-          reads h r.step.0 (world_before h xs place) me.host r.line r.choice me event before position
-          (subst (λ (s : Observation). Happens s me event before) is here)
-          (subst (λ (s : Observation). reports s.blocks position ≡ true) is r.reports)
 
   told : (from to position : ℕ) → from < to → BothPermit h xs from me → IsReported h xs from me position
       → StaysOut h xs from to me position → Told position (flight_before h xs to me).board
   told from to position less permit r out =
       run_keeps h xs six (λ f. Told position f.board) me (suc from) to (omega (arith, less))
-      (begins from position (out.unacknowledged (suc from) (omega arith) (omega (arith, less))) permit r)
+      (begins from position (low_before (suc from) (omega (arith, less))) permit r)
       (λ place low high is moment clock event before here.
       board_keeps position moment clock (is_recovering before (flight_before h xs place me).recovery)
       (number_built (observed h xs place).built_change) event before (seen_before h xs (suc place) me)
       (read_reports (sides_after (observed h xs place).syn_change (flight_before h xs place me).sides) (observed h xs place).blocks)
-      (flight_before h xs place me).board (out.unacknowledged (suc place) (omega (arith, low)) (omega (arith, high)))
+      (flight_before h xs place me).board (low_before (suc place) (omega (arith, high)))
       (λ m builds. out.unbuilt place m before (omega (arith, low)) high
       (subst (λ (e : Event). Happens (observed h xs place) me e before) builds here)) is)
+    where
+      low_before : (place : ℕ) → place ≤ to → (seen_before h xs place me).snd_una ≤ position
+      low_before place high =
+          let rise = una_rises h xs lawful me place to high in
+          let last = out.unacknowledged in
+          omega (arith, rise, last)
+
+  -- what was sent at one place was sent at a later one
+  was_sent : (from to position : ℕ) → from < to → IsReported h xs from me position → (m : SegmentPlan) (b : BuildsAgain h xs to me m)
+      → position < b.before.snd_max
+  was_sent from to position less r m b =
+      let read = read_there from position r r.event r.before r.happens in
+      let is = shown to (Makes m) b.step in
+      let built =
+      built_there (world_before h xs to) me (Builds m) b.before h b.step.0 m (subst (λ (s : Observation). Happens s me (Builds m) b.before) is b.happens) in
+      let later = becomes h xs lawful me from to (omega (arith, less)) read.place.endpoint read.place.there in
+      let one : later.now ≡ built.endpoint = same_Some later.now built.endpoint (sym later.there ∙ built.there) in
+      let first : r.before.snd_max ≡ snd_max read.place.endpoint = ap (λ (v : View). v.snd_max) read.place.seen in
+      let last : b.before.snd_max ≡ snd_max later.now =
+      ap (λ (v : View). v.snd_max) built.seen ∙ ap snd_max (sym one) in
+      let made = later.made in
+      let sent = read.sent in
+      omega (arith, first, last, made, sent)
 
   -- ---- the segment isn't refused
 
@@ -154,13 +182,14 @@ module _ (h : Header) (xs : List (Stamped tcp_shape)) (me : EndpointId) (six : s
       ∙ none
 
 pub stays : WhatIsToldStays → (h : Header) (xs : List (Stamped tcp_shape)) → says_sender h.version ≡ true → judges_repeats h.congestion ≡ true
-    → Dutiful h (first_known h) xs → WhatWasReportedStays h xs
-stays law h xs six judged may from to position me m less permit r out begun b low holds =
+    → Lawful (tcp h) (start (tcp h)) xs → Dutiful h (first_known h) xs → WhatWasReportedStays h xs
+stays law h xs six judged lawful may from to position me m less permit r out begun b holds =
     let f : Flight = flight_before h xs to me in
     let untold : meets (from_list f.board.told) m.pos (min (m.pos + making_length m) b.before.snd_max) ≡ false =
-    law (b.step.0 + h.grain) m b.before f (fast h xs me six to begun) b.again (accepted h xs me six may judged to m b) in
+    law (b.step.0 + h.grain) m b.before f (fast h xs me six lawful to begun) b.again (accepted h xs me six lawful may judged to m b) in
     let high = holds.1 in
+    let low = was_sent h xs me six lawful from to position less r m b in
     let is : contains {K = ℕ} {R = nat_cmp} (from_list f.board.told) position ≡ false =
     meets_none (from_list f.board.told) m.pos (min (m.pos + making_length m) b.before.snd_max) untold position holds.0 (omega (arith, low, high)) in
-    let bad : true ≡ false = sym (told h xs me six from to position less permit r out) ∙ is in
+    let bad : true ≡ false = sym (told h xs me six lawful from to position less permit r out) ∙ is in
     cc

@@ -25,8 +25,8 @@ HasSyn h xs place me change =
     (event : Event) × (before : View) × Happens (observed h xs place) me event before
     × ((observed h xs place).syn_change ≡ change)
 
--- before this place, the endpoint's own SYN went out and permitted selective acknowledgments, and so did the SYN of its
--- peer that it took last (RFC 2018, 2)
+-- before this place, the endpoint's own SYN went out and permitted selective acknowledgments, and it took a SYN that did
+-- (RFC 2018, 2)
 pub record BothPermit (h : Header) (xs : List (Stamped tcp_shape)) (place : ℕ) (me : EndpointId) : Type 0 where
   pub sent : ℕ
   pub sent_before : sent < place
@@ -35,8 +35,6 @@ pub record BothPermit (h : Header) (xs : List (Stamped tcp_shape)) (place : ℕ)
   pub taken_before : taken < place
   pub alone : Bool
   pub takes : HasSyn h xs taken me (syn_change.Takes true alone)
-  pub last : (later : ℕ) (alone : Bool) → taken < later → later ≤ place
-      → HasSyn h xs later me (syn_change.Takes false alone) → ⊥
 
 -- a block reports a position (RFC 2018, 3)
 abbrev pub is_within : (position : ℕ) → Option Block → Bool
@@ -62,12 +60,12 @@ pub record IsReported (h : Header) (xs : List (Stamped tcp_shape)) (place : ℕ)
 abbrev pub Holds : SegmentPlan → (position : ℕ) → Type 0
 Holds m position = (m.pos ≤ position) × (position < m.pos + making_length m)
 
--- after one place and before another, a position is neither acknowledged nor built
+-- between two places, a position is neither built nor acknowledged
 pub record StaysOut (h : Header) (xs : List (Stamped tcp_shape)) (from to : ℕ) (me : EndpointId) (position : ℕ)
     : Type 0 where
-  pub unacknowledged : (place : ℕ) → from < place → place ≤ to → (seen_before h xs place me).snd_una ≤ position
   pub unbuilt : (place : ℕ) (m : SegmentPlan) (before : View) → from < place → place < to
       → Happens (observed h xs place) me (Builds m) before → Holds m position → ⊥
+  pub unacknowledged : (seen_before h xs to me).snd_una ≤ position
 
 -- before this place, the endpoint began fast recovery, and its retransmission timer hasn't expired since
 pub record HasBegunRecovery (h : Header) (xs : List (Stamped tcp_shape)) (place : ℕ) (me : EndpointId) : Type 0 where
@@ -92,4 +90,4 @@ WhatWasReportedStays h xs =
     (reported again position : ℕ) (me : EndpointId) (m : SegmentPlan) → reported < again
     → BothPermit h xs reported me → IsReported h xs reported me position
     → StaysOut h xs reported again me position → HasBegunRecovery h xs again me
-    → (b : BuildsAgain h xs again me m) → position < b.before.snd_max → Holds m position → ⊥
+    → BuildsAgain h xs again me m → Holds m position → ⊥

@@ -6,7 +6,8 @@ ghost use Rattle.std.specs.Prelude.{◌≡◌, List, true};
 ghost use Rattle.case_forms.specs.Versions.{says_sender};
 ghost use Rattle.case_forms.specs.declared.trace.Header.{Header};
 ghost use Rattle.spec_network.specs.Hosts.{Stamped};
-ghost use Rattle.spec_tcp.specs.Machine.{tcp_shape};
+ghost use Rattle.spec_network.specs.HostSteps.{Lawful, start};
+ghost use Rattle.spec_tcp.specs.Machine.{tcp, tcp_shape};
 ghost use Rattle.spec_duties.specs.Resent.{judges_repeats};
 ghost use Rattle.spec_cases.specs.Cases.{Dutiful, first_known};
 ghost use Rattle.kept_flights.specs.Reported.{WhatWasReportedStays};
@@ -16,7 +17,8 @@ ghost use Rattle.kept_flights.specs.Reported.{WhatWasReportedStays};
 /// since (RFC 2018, 5 and 8; RFC 6675, 4, NextSeg).
 pub fn what_was_reported_stays()
     ensures { (h : Header) (xs : List (Stamped tcp_shape)) → says_sender h.version ≡ true
-        → judges_repeats h.congestion ≡ true → Dutiful h (first_known h) xs → WhatWasReportedStays h xs }
+        → judges_repeats h.congestion ≡ true → Lawful (tcp h) (start (tcp h)) xs → Dutiful h (first_known h) xs
+        → WhatWasReportedStays h xs }
 {
     what_is_told_stays()
 }

@@ -1,5 +1,3 @@
-use Rattle.kept_flights.proofs.Syns.{TakesSyn}
-use Rattle.kept_flights.proofs.Positions.{becomes}
 use Rattle.kept_flights.proofs.Stays.{stays}
 use Rattle.kept_flights.proofs.laws.what_was_reported_stays.Goals as goal
 
