@@ -13,8 +13,8 @@ use Rattle.case_forms.specs.declared.calls.Host.{Host}
 use Rattle.case_forms.specs.declared.calls.Host.TheVariants.{Zero, One}
 use Rattle.case_forms.specs.declared.trace.Header.{Header}
 use Rattle.spec_network.specs.Hosts.{Stamped, World}
-use Rattle.spec_network.specs.HostSteps.{after, after_all, start}
-use Rattle.spec_network.specs.Tables.{Both, on, pick, with_host}
+use Rattle.spec_network.specs.HostSteps.{after, after_all}
+use Rattle.spec_network.specs.Tables.{on, pick, with_host}
 use Rattle.spec_network.proofs.Entries.{lookup_insert}
 use Rattle.spec_tcp.specs.Machine.{tcp, tcp_shape}
 use Rattle.spec_tcp.specs.declared.endpoint.EndpointId.{EndpointId}

@@ -1,16 +1,13 @@
 -- What was reported isn't built again in fast recovery.
 use Rattle.std.proofs.Common.{◌≡◌, ℕ, suc, ◌+◌, ◌<◌, ◌≤◌, min, Bool, true, false, List, Option, None, Some, refl, ap, sym, subst, ◌∙◌, arith}
-use Rattle.std.specs.Prelude.{◌&&◌, if◌then◌else◌, slice_get}
+use Rattle.std.specs.Prelude.{◌&&◌, if◌then◌else◌}
 use Rattle.std.specs.FinSet.{contains, from_list}
 use Rattle.std.specs.Ordering.{nat_cmp}
 use Rattle.std.specs.Option.{option_map_or}
-use Rattle.std.proofs.lemmas.Bool.Decides.{nat_tests}
 use Rattle.std.proofs.lemmas.Option.{same_Some}
 use Rattle.case_forms.specs.Versions.{says_sender}
 use Rattle.case_forms.specs.declared.steps.SegmentPlan.{SegmentPlan}
-use Rattle.case_forms.specs.declared.timer.Timer.TheVariants.{Rto}
 use Rattle.case_forms.specs.declared.trace.Header.{Header}
-use Rattle.verdict.specs.declared.rule.Rule.{Rule}
 use Rattle.streams.specs.Ranges.{meets}
 use Rattle.streams.proofs.RangeLemmas.{meets_none}
 use Rattle.spec_network.specs.Hosts.{At, HostStep, Makes, Stamped, Takes, World}
@@ -23,7 +20,7 @@ use Rattle.spec_tcp.specs.declared.endpoint.EndpointId.{EndpointId}
 use Rattle.spec_duties.specs.Observations.{observe, unseen}
 use Rattle.spec_duties.specs.Resent.{judges_repeats}
 use Rattle.spec_duties.specs.declared.events.Event.{Event}
-use Rattle.spec_duties.specs.declared.events.Event.TheVariants.{Builds, Expires, Processes, Recovers}
+use Rattle.spec_duties.specs.declared.events.Event.TheVariants.{Builds, Recovers}
 use Rattle.spec_duties.specs.declared.observations.Observation.{Observation}
 use Rattle.spec_duties.specs.declared.observations.SynChange.{SynChange}
 use Rattle.spec_duties.specs.declared.observations.SynChange.TheVariants as syn_change

@@ -1,6 +1,6 @@
 -- An endpoint takes one SYN: as a child of a listener, or in SYN-SENT, which it leaves then.
-use Rattle.std.proofs.Common.{◌≡◌, ℕ, suc, ◌<◌, ◌≤◌, Bool, true, false, List, [], ◌∷◌, ◌++◌, length, Option, Some, None, refl, ap, sym, subst, ◌∙◌, arith, nat_eq}
-use Rattle.std.specs.Prelude.{◌&&◌, if◌then◌else◌, not, slice_get, take}
+use Rattle.std.proofs.Common.{◌≡◌, ℕ, suc, ◌<◌, Bool, true, false, List, [], ◌∷◌, ◌++◌, length, Option, Some, None, refl, ap, sym, subst, ◌∙◌, arith, nat_eq}
+use Rattle.std.specs.Prelude.{◌&&◌, if◌then◌else◌, not, slice_get}
 use Rattle.std.specs.Map.{lookup}
 use Rattle.std.specs.Option.{option_map, option_map_or}
 use Rattle.std.proofs.lemmas.Option.{none-some, same_Some, slice_get_past}
@@ -18,8 +18,8 @@ use Rattle.case_forms.specs.declared.steps.TakeChoice.{TakeChoice}
 use Rattle.case_forms.specs.declared.trace.Header.{Header}
 use Rattle.case_forms.specs.declared.version.Version.{Version}
 use Rattle.spec_network.specs.HostSteps.{Lawful, after, host_step_after, start}
-use Rattle.spec_network.specs.Hosts.{Answered as Ended, At, Begin, Called, Does, Drops, Effect, Expires, Finish, Gets, Hears, HostState, Idle, Makes, Sends}
-use Rattle.spec_network.specs.Hosts.{Answers, Stamped, Step, Takes, Turn, World, turn_of}
+use Rattle.spec_network.specs.Hosts.{Answered as Ended, At, Called, Drops, Effect, HostState, Idle, Sends}
+use Rattle.spec_network.specs.Hosts.{Stamped, Step, Takes, Turn, World, turn_of}
 use Rattle.spec_network.specs.Tables.{Both, on, other, pick, waiting, with_host}
 use Rattle.spec_tcp.specs.Arrives.{AtEndpoint, AtListener, Nobody, Taker, after_taking, endpoint_taken, taker}
 use Rattle.spec_tcp.specs.Arrives.OtherStates.{taken}
@@ -40,11 +40,10 @@ use Rattle.spec_tcp_laws.proofs.Rules.{on_cases}
 use Rattle.spec_tcp_laws.proofs.Sound.{modify_here}
 use Rattle.spec_tcp_laws.proofs.Takes.{taker_there}
 use Rattle.spec_network.specs.HostRules.{aim_of}
-use Rattle.spec_duties.specs.Dropped.{answering_breaks, taking_breaks}
-use Rattle.spec_duties.specs.Observations.{observe, observe_accept, observe_call, observe_close, observe_dropping, observe_effect, observe_other, observe_taking}
+use Rattle.spec_duties.specs.Observations.{observe, observe_accept, observe_call, observe_close, observe_effect, observe_other, observe_taking}
 use Rattle.spec_duties.specs.Observations.{is_done, processing_of, syn_dropped, syn_taken, takes_syn, unseen}
 use Rattle.spec_duties.specs.Views.{unborn, view_of}
-use Rattle.spec_tcp.specs.HostTcp.{has_ended, queue_of}
+use Rattle.spec_tcp.specs.HostTcp.{has_ended}
 use Rattle.spec_duties.specs.declared.events.Event.{Event}
 use Rattle.spec_duties.specs.declared.observations.Observation.{Observation}
 use Rattle.spec_duties.specs.declared.observations.Queueing.TheVariants as queueing
@@ -52,7 +51,7 @@ use Rattle.spec_duties.specs.declared.observations.SynChange.{SynChange}
 use Rattle.spec_duties.specs.declared.observations.SynChange.TheVariants as syn_change
 use Rattle.spec_duties.specs.declared.observations.TouchedEndpoint.{TouchedEndpoint}
 use Rattle.spec_duties.specs.declared.views.View.{View}
-use Rattle.kept_flights.specs.Places.{Happens, observed, world_before}
+use Rattle.kept_flights.specs.Places.{Happens, world_before}
 use Rattle.kept_flights.specs.Reported.{HasSyn}
 use Rattle.kept_flights.proofs.Positions.{Answered, becomes, world_next}
 use Rattle.kept_flights.proofs.Runs.{touched}

@@ -1,7 +1,5 @@
 //! What a run whose steps aren't refused says of data in flight.
 
-use flights::what_is_told_stays;
-
 ghost use Rattle.std.specs.Prelude.{◌≡◌, List, true};
 ghost use Rattle.case_forms.specs.Versions.{says_sender};
 ghost use Rattle.case_forms.specs.declared.steps.Witness.{Witness};
@@ -15,6 +13,8 @@ ghost use Rattle.spec_cases.specs.Cases.{Dutiful, first_known};
 ghost use Rattle.checker.specs.Explains.{Explains};
 ghost use Rattle.checker.specs.Seen.{stamped};
 ghost use Rattle.kept_flights.specs.Reported.{WhatWasReportedStays};
+
+use flights::what_is_told_stays;
 
 /// In version 6, at `congestion full` or `recovery`: once an endpoint began fast recovery, and until its retransmission
 /// timer expires, it builds no segment again with a position that a block reported to it, unless it built the position
