@@ -44,7 +44,8 @@ use Rattle.kept_flights.proofs.Runs.{dutiful_there, flight_before, known_before,
 one_event : (s : Observation) (me : EndpointId) (event other : Event) (before other_before : View) → Happens s me event before → Happens s me other other_before
     → (event ≡ other) × (before ≡ other_before)
 one_event s me event other before other_before here there =
-    let one : touched me event before ≡ touched me other other_before = same_Some (touched me event before) (touched me other other_before) (sym here ∙ there) in
+    let one : touched me event before ≡ touched me other other_before =
+    same_Some (touched me event before) (touched me other other_before) (sym here ∙ there) in
     (ap (λ (t : TouchedEndpoint). t.event) one, ap (λ (t : TouchedEndpoint). t.before) one)
 
 module _ (h : Header) (xs : List (Stamped tcp_shape)) (me : EndpointId) (six : says_sender h.version ≡ true)

@@ -233,7 +233,8 @@ module _ (h : Header) (moment : ℕ) (w : World tcp_shape) (host : Host) (line :
 pub takes_syn_there : (h : Header) (moment : ℕ) (w : World tcp_shape) (step : Step tcp_shape) (me : EndpointId) (event : Event) (before : View)
     (permits alone : Bool) → Happens (observe h moment w step) me event before → (observe h moment w step).syn_change ≡ syn_change.Takes permits alone
     → TakesSyn h moment w step me
-takes_syn_there h moment w (At host (Takes line how)) me event before permits alone here syn = at_step h moment w host line how me event before permits alone here syn
+takes_syn_there h moment w (At host (Takes line how)) me event before permits alone here syn =
+    at_step h moment w host line how me event before permits alone here syn
 takes_syn_there h moment w (At host (Sends line number wire)) me event before permits alone here syn =
     absurd (on_cases (λ (s : Observation). NoTake s.syn_change) (lookup (nat_eq number) (pick w.hosts host).made) unseen _ nothing
     (λ m is. either_no _ (syn_change.Sends (permits_sack wire.bytes)) syn_change.Nothing (λ permits alone is. cc) nothing) permits alone syn)

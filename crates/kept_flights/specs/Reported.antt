@@ -25,8 +25,8 @@ HasSyn h xs place me change =
     (event : Event) × (before : View) × Happens (observed h xs place) me event before
     × ((observed h xs place).syn_change ≡ change)
 
--- before this place, the endpoint's own SYN went out and permitted selective acknowledgments, and it took a SYN that did
--- (RFC 2018, 2)
+-- before this place, the endpoint sent a SYN that permitted selective acknowledgments, and took a SYN that did (RFC
+-- 2018, 2)
 pub record BothPermit (h : Header) (xs : List (Stamped tcp_shape)) (place : ℕ) (me : EndpointId) : Type 0 where
   pub sent : ℕ
   pub sent_before : sent < place
