@@ -26,7 +26,8 @@ WINGS = (
         "Verdict",
         "#73a",
         196,
-        """verdict answers interval_order checker kept_duties parallel_check answer_stream cli tcpwit""",
+        """verdict answers interval_order checker kept_duties kept_flights parallel_check answer_stream cli
+        tcpwit""",
     ),
     (
         "Around it",
@@ -37,7 +38,7 @@ WINGS = (
     ),
 )
 # Crates of laws alone, and tests and benchmarks: they have a dashed border.
-DASHED = "spec_tcp_laws spec_merge kept_duties test_runs test_cases bench_jobs".split()
+DASHED = "spec_tcp_laws spec_merge kept_duties kept_flights test_runs test_cases bench_jobs".split()
 # The programs, and the library for C.
 BOLD = "tcpwit tcpwit_lab tcpwit_c".split()
 

@@ -1,0 +1,32 @@
+//! What a run whose steps aren't refused says of data in flight.
+
+ghost use Rattle.std.specs.Prelude.{◌≡◌, List, true};
+ghost use Rattle.case_forms.specs.Versions.{says_sender};
+ghost use Rattle.case_forms.specs.declared.steps.Witness.{Witness};
+ghost use Rattle.case_forms.specs.declared.trace.Header.{Header};
+ghost use Rattle.case_forms.specs.declared.trace.Trace.{Trace};
+ghost use Rattle.spec_network.specs.Hosts.{Stamped};
+ghost use Rattle.spec_network.specs.HostSteps.{Lawful, start};
+ghost use Rattle.spec_tcp.specs.Machine.{tcp, tcp_shape};
+ghost use Rattle.spec_duties.specs.Resent.{judges_repeats};
+ghost use Rattle.spec_cases.specs.Cases.{Dutiful, first_known};
+ghost use Rattle.checker.specs.Explains.{Explains};
+ghost use Rattle.checker.specs.Seen.{stamped};
+ghost use Rattle.kept_flights.specs.Reported.{WhatWasReportedStays};
+
+use flights::what_is_told_stays;
+
+/// In version 6, at `congestion full` or `recovery`: once an endpoint began fast recovery, and until its retransmission
+/// timer expires, it builds no segment again with a position that a block reported to it, unless it built the position
+/// since (RFC 2018, 5 and 8; RFC 6675, 4, NextSeg). This is true of each case that gets a yes.
+pub fn what_was_reported_stays()
+    ensures yes { (t : Trace) (w : Witness) → Explains t w → says_sender t.header.version ≡ true
+        → judges_repeats t.header.congestion ≡ true → WhatWasReportedStays t.header (stamped t.header t.lines w.steps) }
+
+    // So is it of each run of the model of which data in flight refuses no step.
+    ensures runs { (h : Header) (xs : List (Stamped tcp_shape)) → says_sender h.version ≡ true
+        → judges_repeats h.congestion ≡ true → Lawful (tcp h) (start (tcp h)) xs → Dutiful h (first_known h) xs
+        → WhatWasReportedStays h xs }
+{
+    what_is_told_stays()
+}

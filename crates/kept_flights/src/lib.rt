@@ -1,0 +1,17 @@
+//! What a run says of data in flight if neither the model nor what is kept of that data refuses one of its steps.
+//!
+//! A yes in version 6 means that the case's steps are such a run. The statement is about places in the list of steps
+//! and about what `observe` shows of them. What is kept of data in flight between the steps doesn't appear in it. This
+//! crate has no code, only a law.
+//!
+//! - `laws`: the law, the contract of a call that does nothing
+//!
+//! The definitions:
+//!
+//! - `specs/Places`: the steps of a run by their places, and what they do at an endpoint
+//! - `specs/Reported`: what a block reported isn't sent again in fast recovery
+#![tactic(auto)]
+
+mod laws;
+
+pub use laws::what_was_reported_stays;
