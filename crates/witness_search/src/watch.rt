@@ -112,7 +112,9 @@ impl Watch {
         let broken = self.judge(world, beside, &step, seen)?;
         step.apply(world, self.moment)?;
         let now = view_in(world, &seen.touched);
-        beside.flights.note(world.header(), self.moment, seen, &now)?;
+        beside
+            .flights
+            .note(world.header(), self.moment, seen, &now)?;
         self.note_duties(world, &mut beside.duties, seen, &now)?;
         Ok(broken)
     }
