@@ -144,8 +144,7 @@ impl Flight {
     {
         match event {
             Event::Builds(plan)
-                if repeats && goes_again(v, plan) && !self.may_go_again(clock, v, plan) =>
-            {
+                if repeats && goes_again(v, plan) && !self.may_go_again(clock, v, plan) => {
                 Some(Rule::OldData)
             }
             Event::Recovers if repeats && !self.may_begin(clock, v) => Some(Rule::Recovery),

@@ -324,7 +324,15 @@ fn judge_line(
         TakenLine::Expired { .. } => {
             let seen = observe_line(world, moment, &taken);
             let refusal = flights.refusal(world.header(), moment, &seen);
-            watch_step(world, flights, duties, moment, taken, &seen, refused(refusal))
+            watch_step(
+                world,
+                flights,
+                duties,
+                moment,
+                taken,
+                &seen,
+                refused(refusal),
+            )
         }
         TakenLine::CallBegin { .. }
         | TakenLine::CallEnd { .. }
@@ -362,7 +370,15 @@ fn judge_hidden(
         Hidden::Build { host, plan } => {
             let seen = observe_making(world, host, plan, moment);
             let refusal = flights.refusal(world.header(), moment, &seen);
-            watch_step(world, flights, duties, moment, *step, &seen, refused(refusal))
+            watch_step(
+                world,
+                flights,
+                duties,
+                moment,
+                *step,
+                &seen,
+                refused(refusal),
+            )
         }
         Hidden::Process { host, line, choice } => {
             let seen = observe_taking(world, host, line, choice, moment);
@@ -371,7 +387,15 @@ fn judge_hidden(
         Hidden::Recover { .. } => {
             let seen = observe_hidden(world, moment, step);
             let refusal = flights.refusal(world.header(), moment, &seen);
-            watch_step(world, flights, duties, moment, *step, &seen, refused(refusal))
+            watch_step(
+                world,
+                flights,
+                duties,
+                moment,
+                *step,
+                &seen,
+                refused(refusal),
+            )
         }
         Hidden::Drop { .. } | Hidden::Reset { .. } => {
             let seen = observe_hidden(world, moment, step);

@@ -105,8 +105,7 @@ pub fn untrue_at(world: &World, flights: &Flights, line: &TakenLine) -> bool {
             wire,
             ..
         } => {
-            world.header().version.says_sender()
-                && untrue_sent(world, flights, *host, *made, wire)
+            world.header().version.says_sender() && untrue_sent(world, flights, *host, *made, wire)
         }
         TakenLine::CallBegin { .. }
         | TakenLine::CallEnd { .. }

@@ -57,11 +57,7 @@ pub(crate) fn congestion(
 }
 
 /// Where the segment begins, and what may be sent.
-pub(crate) fn old_data(
-    out: &mut String,
-    scene: &Scene,
-    it: Building,
-) -> Result<(), OutOfMemory> {
+pub(crate) fn old_data(out: &mut String, scene: &Scene, it: Building) -> Result<(), OutOfMemory> {
     let (plan, endpoint) = (it.plan, it.endpoint);
     let (pos, end, una) = (plan.pos, end_of(plan), endpoint.stream.snd_una);
     let (sent, recover) = (endpoint.snd_max(), endpoint.recover);

@@ -1,7 +1,9 @@
 //! What the rule compares, by what the step is about.
 
 use crate::scene::{Building, Expiring, Object, Processing, Scene};
-use crate::{arrivals, builds, calls, inbox, late, limits, numbers, order, reported, resets, timers, wire};
+use crate::{
+    arrivals, builds, calls, inbox, late, limits, numbers, order, reported, resets, timers, wire,
+};
 use case_forms::{Answer, OutOfMemory, Recovery, TakeChoice, Wire};
 use endpoint_state::Endpoint;
 use spec_tcp::{Arrived, Emission};

@@ -30,11 +30,7 @@ pub(crate) fn off(out: &mut String, scene: &Scene, it: Expiring) -> Result<(), O
 }
 
 // What keeps an endpoint with something outstanding from probing.
-fn say_kept(
-    out: &mut String,
-    endpoint: &Endpoint,
-    it: ProbeStanding,
-) -> Result<(), OutOfMemory> {
+fn say_kept(out: &mut String, endpoint: &Endpoint, it: ProbeStanding) -> Result<(), OutOfMemory> {
     match it {
         ProbeStanding::Plain { own, peers } => {
             let which = which_forbids(own, peers);
@@ -51,7 +47,9 @@ fn say_kept(
             )
         }
         ProbeStanding::Due => {
-            out.push_str("the last tail loss probe is still due: the next segment with data is it\n")
+            out.push_str(
+                "the last tail loss probe is still due: the next segment with data is it\n",
+            )
         }
         ProbeStanding::Out(upto) => say_sent(out, upto, endpoint),
         ProbeStanding::Unsent => out.push_str("nothing was sent yet\n"),
@@ -100,9 +98,7 @@ pub(crate) fn early(out: &mut String, scene: &Scene, it: Expiring) -> Result<(),
 // The earliest moment of a probe.
 fn earliest(scene: &Scene, wait: ProbeWait) -> u128 {
     let grain = u128::from(scene.header().grain);
-    wait.due
-        .saturating_sub(grain)
-        .max(u128::from(wait.quiet))
+    wait.due.saturating_sub(grain).max(u128::from(wait.quiet))
 }
 
 /// Writes whether a probe is due or was sent, or from when on one may be sent, if one may.
