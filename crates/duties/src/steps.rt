@@ -210,8 +210,8 @@ impl Duties {
         seen: &Observation,
         touched: &TouchedEndpoint,
     ) -> Result<(), Rule>
-        ensures { result_err result ≡ first_broken (touched_rules header.now slack moment self.now sends.counts sends.untrue
-            (sent_by self.now seen.now.built_change) seen.now.sampling touched.now) }
+        ensures { result_err result ≡ first_broken (touched_rules header.now slack moment self.now sends.counts
+            sends.untrue (sent_by self.now seen.now.built_change) seen.now.sampling touched.now) }
     {
         let id = EndpointId {
             host: touched.host,
@@ -240,8 +240,8 @@ impl Duties {
         seen: &Observation,
         touched: &TouchedEndpoint,
     ) -> Result<(), Rule>
-        ensures { result_err result ≡ first_broken (touched_rules header.now slack moment self.now sends.counts sends.untrue
-            (sent_by self.now seen.now.built_change) seen.now.sampling touched.now) }
+        ensures { result_err result ≡ first_broken (touched_rules header.now slack moment self.now sends.counts
+            sends.untrue (sent_by self.now seen.now.built_change) seen.now.sampling touched.now) }
     {
         if header.version.says_sender() {
             return self.admits_strictly(header, slack, moment, sends, seen, touched);

@@ -21,8 +21,8 @@
 //! - `specs/Dropped`: which segments may be dropped, and which of them ask for an acknowledgment
 //! - `specs/Strict`: the duties that are stricter in version 6, or have later deadlines; `specs/Sampling`: when round
 //!   trips are measured at least; `specs/Answering`: by when a call that waits is answered
-//! - `specs/Blocks`: which positions a selective acknowledgment reports as received; `specs/Kept`: which positions a host
-//!   keeps of a segment
+//! - `specs/Blocks`: which positions a selective acknowledgment reports as received; `specs/Kept`: which positions an
+//!   endpoint keeps of a segment
 //! - `specs/Owed`: all that an endpoint owes; `specs/Observations`: what a step shows of the world
 //! - `specs/Watching`: the rules of a step, and what is kept after it; `specs/End`: the comparison after the last step
 #![tactic(auto)]

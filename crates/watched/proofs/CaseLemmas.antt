@@ -215,7 +215,8 @@ module _ (p : Progress) (fs : Flights) (d : Duties) (moment : ℕ) (step : Step 
       ∙ ap (λ (s : Observation). first_broken (judged_rules p.header moment d (untrue_at p.header known step) s)) sees)
 
   pub step_admits : {A : Type 0} (r : Result A StepFault) (u : Progress) (untrue : Bool) (s : Observation) (refusal : Option Rule)
-      → untrue ≡ untrue_at p.header known step → refusal ≡ refused_by p.header moment known step → refusal ≡ None → first_broken model ≡ None → u ≡ model_after p moment step → s ≡ seen
+      → untrue ≡ untrue_at p.header known step → refusal ≡ refused_by p.header moment known step
+      → refusal ≡ None → first_broken model ≡ None → u ≡ model_after p moment step → s ≡ seen
       → OnOk r (first_broken (judged_rules u.header moment d untrue s) ≡ None) → OnOk r (broken_by (case_of p fs d) moment step ≡ None)
   step_admits r u untrue s refusal asks refused none may is sees e =
       duty_admits r (model_rules p.header moment known step) (watch_rules p.header moment known step)
@@ -223,7 +224,8 @@ module _ (p : Progress) (fs : Flights) (d : Duties) (moment : ℕ) (step : Step 
       (judged_later u untrue s asks is sees) e
 
   pub step_breaks : {A : Type 0} (r : Result A StepFault) (u : Progress) (untrue : Bool) (s : Observation) (refusal : Option Rule)
-      → untrue ≡ untrue_at p.header known step → refusal ≡ refused_by p.header moment known step → refusal ≡ None → first_broken model ≡ None → u ≡ model_after p moment step → s ≡ seen
+      → untrue ≡ untrue_at p.header known step → refusal ≡ refused_by p.header moment known step
+      → refusal ≡ None → first_broken model ≡ None → u ≡ model_after p moment step → s ≡ seen
       → IfErr r (λ fault. IfBroken fault (λ rule. first_broken (judged_rules u.header moment d untrue s) ≡ Some rule))
       → IfErr r (λ fault. IfBroken fault (λ rule. broken_by (case_of p fs d) moment step ≡ Some rule))
   step_breaks r u untrue s refusal asks refused none may is sees e =

@@ -28,7 +28,8 @@ use Rattle.spec_tcp_laws.proofs.LevelLemmas.{step_alike}
 use Rattle.duties.proofs.SlackLemmas.{AreFewer, fewer_none}
 use Rattle.spec_duties.specs.Answering.{Waits, any_call, is_unanswered_late, waits_after}
 use Rattle.spec_duties.specs.declared.answering.CallChange.{CallChange}
-use Rattle.spec_cases.specs.Cases.{Dutiful, Known, flown, judged_rules, known_after, known_after_all, late_at_end, model_rules, noted_by, untrue_at, watch_rules}
+use Rattle.spec_cases.specs.Cases.{Dutiful, Known, flown, judged_rules, known_after, known_after_all, late_at_end, model_rules, noted_by}
+use Rattle.spec_cases.specs.Cases.{untrue_at, watch_rules}
 use Rattle.spec_duties.specs.End.{any_unsent, either, first_waiting, is_brought_late, is_send_late, lates_at, lates_from, lates_of_all, lates_of_host, line_of}
 use Rattle.spec_duties.specs.declared.events.Event.{Event}
 use Rattle.spec_duties.specs.declared.events.Event.TheVariants.{Builds, Calls, Drops, Expires, Opens, Processes, Recovers, Sends}
