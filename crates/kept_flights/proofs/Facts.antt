@@ -1,5 +1,5 @@
 -- A computed run, in which an endpoint builds again what a block reported, in fast recovery: data in flight refuses it.
-use Rattle.std.proofs.Common.{◌≡◌, ℕ, suc, ◌<◌, ◌≤◌, Bool, true, false, List, [], ◌∷◌, ◌++◌, Option, None, Some, refl, sym, ap, subst, ◌∙◌, arith}
+use Rattle.std.proofs.Common.{◌≡◌, ℕ, false, List, [], ◌∷◌, ◌++◌, Option, None, Some, refl, sym, ap, subst, arith}
 use Rattle.std.specs.Option.{option_map_or}
 use Rattle.std.proofs.lemmas.Option.{none-some}
 use Rattle.case_forms.specs.declared.calls.Answer.TheVariants as answers
@@ -24,7 +24,6 @@ use Rattle.spec_tcp.specs.Machine.{tcp, tcp_shape}
 use Rattle.spec_tcp.specs.declared.endpoint.EndpointId.{EndpointId}
 use Rattle.spec_tcp.proofs.Telling.{ack, header, syn}
 use Rattle.spec_duties.specs.declared.events.Event.TheVariants.{Builds, Recovers}
-use Rattle.spec_duties.specs.declared.observations.SynChange.TheVariants as syn_change
 use Rattle.spec_duties.specs.declared.observations.TouchedEndpoint.{TouchedEndpoint}
 use Rattle.spec_duties.specs.declared.views.View.{View}
 use Rattle.spec_cases.specs.Cases.{Dutiful, first_known}
