@@ -29,7 +29,7 @@ use Rattle.spec_duties.specs.declared.views.View.{View}
 use Rattle.spec_cases.specs.Cases.{Dutiful, first_known}
 use Rattle.flights.specs.Promises.{WhatIsToldStays}
 use Rattle.kept_flights.specs.Places.{Happens, observed}
-use Rattle.kept_flights.specs.Reported.{BothPermit, BuildsAgain, HasBegunRecovery, Holds, IsReported, StaysOut}
+use Rattle.kept_flights.specs.Reported.{BothPermit, IsBuilt, HasBegunRecovery, Holds, IsReported, StaysOut}
 use Rattle.kept_flights.proofs.Stays.{stays}
 
 -- the first rule that steps break, one by one
@@ -158,8 +158,8 @@ recovery_has_begun = record {
   no_timeout = λ later view low high here. omega (arith, low, high);
 }
 
-second_goes_again : BuildsAgain six run 21 sender (plan 2 1 ack None)
-second_goes_again = record { step = (144, refl); before = _; happens = refl; again = refl }
+second_is_built : IsBuilt six run 21 sender (plan 2 1 ack None)
+second_is_built = record { step = (144, refl); before = _; happens = refl; no_fin_alone = refl }
 
 second_is_held : Holds (plan 2 1 ack None) 2
 second_is_held = (omega arith, omega arith)
@@ -168,4 +168,4 @@ second_is_held = (omega arith, omega arith)
 pub data_in_flight_refuses_it : WhatIsToldStays → Dutiful six (first_known six) run → ⊥
 data_in_flight_refuses_it law may =
     stays law six run refl refl it_is_a_run may 19 21 2 sender (plan 2 1 ack None) (omega arith) both_permit second_is_reported second_stays_out
-    recovery_has_begun second_goes_again second_is_held
+    recovery_has_begun second_is_built second_is_held
