@@ -4,3 +4,4 @@ pub mod Positions
 pub mod Syns
 pub mod Taking
 pub mod Stays
+pub mod Facts

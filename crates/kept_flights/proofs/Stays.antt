@@ -1,9 +1,10 @@
 -- What was reported isn't built again in fast recovery.
 use Rattle.std.proofs.Common.{◌≡◌, ℕ, suc, ◌+◌, ◌<◌, ◌≤◌, min, Bool, true, false, List, Option, None, Some, refl, ap, sym, subst, ◌∙◌, arith}
-use Rattle.std.specs.Prelude.{◌&&◌, if◌then◌else◌}
+use Rattle.std.specs.Prelude.{◌&&◌, if◌then◌else◌, nat_lt, not}
 use Rattle.std.specs.FinSet.{contains, from_list}
 use Rattle.std.specs.Ordering.{nat_cmp}
 use Rattle.std.specs.Option.{option_map_or}
+use Rattle.std.proofs.lemmas.Bool.Decides.{nat_tests}
 use Rattle.std.proofs.lemmas.Option.{same_Some}
 use Rattle.case_forms.specs.Versions.{says_sender}
 use Rattle.case_forms.specs.declared.steps.SegmentPlan.{SegmentPlan}
@@ -19,6 +20,7 @@ use Rattle.spec_tcp.specs.Makes.Payload.{making_length}
 use Rattle.spec_tcp.specs.declared.endpoint.EndpointId.{EndpointId}
 use Rattle.spec_duties.specs.Observations.{observe, unseen}
 use Rattle.spec_duties.specs.Resent.{judges_repeats}
+use Rattle.spec_duties.specs.Strict.{is_fin_alone}
 use Rattle.spec_duties.specs.declared.events.Event.{Event}
 use Rattle.spec_duties.specs.declared.events.Event.TheVariants.{Builds, Recovers}
 use Rattle.spec_duties.specs.declared.observations.Observation.{Observation}
@@ -26,14 +28,14 @@ use Rattle.spec_duties.specs.declared.observations.SynChange.{SynChange}
 use Rattle.spec_duties.specs.declared.observations.SynChange.TheVariants as syn_change
 use Rattle.spec_duties.specs.declared.observations.TouchedEndpoint.{TouchedEndpoint}
 use Rattle.spec_duties.specs.declared.views.View.{View}
-use Rattle.spec_flights.specs.Flights.{Flight, board_after, broken_at, flight_at, number_built}
+use Rattle.spec_flights.specs.Flights.{Flight, board_after, broken_at, flight_at, goes_again, number_built}
 use Rattle.spec_flights.specs.Delivered.{read_reports}
 use Rattle.spec_flights.specs.Recovering.{is_recovering, recovery_after}
 use Rattle.spec_flights.specs.Sides.{are_selective, sides_after}
 use Rattle.spec_cases.specs.Cases.{Dutiful, Known, first_known, refused_by}
 use Rattle.flights.specs.Promises.{WhatIsToldStays}
 use Rattle.kept_flights.specs.Places.{Happens, IsStep, observed, seen_before, world_before}
-use Rattle.kept_flights.specs.Reported.{BothPermit, BuildsAgain, HasBegunRecovery, HasSyn, IsReported, StaysOut, WhatWasReportedStays, reports}
+use Rattle.kept_flights.specs.Reported.{BothPermit, IsBuilt, HasBegunRecovery, HasSyn, Holds, IsReported, StaysOut, WhatWasReportedStays, reports}
 use Rattle.kept_flights.proofs.Kept.{Told, board_begins, board_keeps, fast_keeps, own_begins, own_keeps, peers_keeps}
 use Rattle.kept_flights.proofs.Positions.{becomes, una_rises}
 use Rattle.kept_flights.proofs.Syns.{taken_once}
@@ -144,7 +146,7 @@ module _ (h : Header) (xs : List (Stamped tcp_shape)) (me : EndpointId) (six : s
           omega (arith, rise, last)
 
   -- what was sent at one place was sent at a later one
-  was_sent : (from to position : ℕ) → from < to → IsReported h xs from me position → (m : SegmentPlan) (b : BuildsAgain h xs to me m)
+  was_sent : (from to position : ℕ) → from < to → IsReported h xs from me position → (m : SegmentPlan) (b : IsBuilt h xs to me m)
       → position < b.before.snd_max
   was_sent from to position less r m b =
       let read = read_there from position r r.event r.before r.happens in
@@ -162,7 +164,7 @@ module _ (h : Header) (xs : List (Stamped tcp_shape)) (me : EndpointId) (six : s
 
   -- ---- the segment isn't refused
 
-  accepted : Dutiful h (first_known h) xs → judges_repeats h.congestion ≡ true → (place : ℕ) (m : SegmentPlan) (b : BuildsAgain h xs place me m)
+  accepted : Dutiful h (first_known h) xs → judges_repeats h.congestion ≡ true → (place : ℕ) (m : SegmentPlan) (b : IsBuilt h xs place me m)
       → broken_at true (b.step.0 + h.grain) (Builds m) b.before (flight_before h xs place me) ≡ None
   accepted may judged place m b =
       let k : Known = known_before h xs place in
@@ -179,14 +181,24 @@ module _ (h : Header) (xs : List (Stamped tcp_shape)) (me : EndpointId) (six : s
       ∙ ap (λ (j : Bool). broken_at j (b.step.0 + h.grain) (Builds m) b.before (flight_before h xs place me)) judged)
       ∙ none
 
+-- so it goes again
+again : (v : View) (m : SegmentPlan) (position : ℕ) → is_fin_alone m v ≡ false → Holds m position → position < v.snd_max → goes_again v m ≡ true
+again v m position no_fin holds sent =
+    let low = holds.0 in
+    let high = holds.1 in
+    let some : nat_lt 0 (making_length m) ≡ true = grind (arith, nat_tests, low, high) in
+    let old : nat_lt m.pos v.snd_max ≡ true = grind (arith, nat_tests, low, sent) in
+    (λ i. some i && old i && not (no_fin i))
+
 pub stays : WhatIsToldStays → (h : Header) (xs : List (Stamped tcp_shape)) → says_sender h.version ≡ true → judges_repeats h.congestion ≡ true
     → Lawful (tcp h) (start (tcp h)) xs → Dutiful h (first_known h) xs → WhatWasReportedStays h xs
 stays law h xs six judged lawful may from to position me m less permit r out begun b holds =
     let f : Flight = flight_before h xs to me in
-    let untold : meets (from_list f.board.told) m.pos (min (m.pos + making_length m) b.before.snd_max) ≡ false =
-    law (b.step.0 + h.grain) m b.before f (fast h xs me six lawful to begun) b.again (accepted h xs me six lawful may judged to m b) in
     let high = holds.1 in
     let low = was_sent h xs me six lawful from to position less r m b in
+    let untold : meets (from_list f.board.told) m.pos (min (m.pos + making_length m) b.before.snd_max) ≡ false =
+    law (b.step.0 + h.grain) m b.before f (fast h xs me six lawful to begun)
+    (again b.before m position b.no_fin_alone holds low) (accepted h xs me six lawful may judged to m b) in
     let is : contains {K = ℕ} {R = nat_cmp} (from_list f.board.told) position ≡ false =
     meets_none (from_list f.board.told) m.pos (min (m.pos + making_length m) b.before.snd_max) untold position holds.0 (omega (arith, low, high)) in
     let bad : true ≡ false = sym (told h xs me six lawful from to position less permit r out) ∙ is in

@@ -9,6 +9,7 @@ use Rattle.spec_network.specs.Hosts.{Makes, Stamped, Takes}
 use Rattle.spec_tcp.specs.Machine.{tcp_shape}
 use Rattle.spec_tcp.specs.Makes.Payload.{making_length}
 use Rattle.spec_tcp.specs.declared.endpoint.EndpointId.{EndpointId}
+use Rattle.spec_duties.specs.Strict.{is_fin_alone}
 use Rattle.spec_duties.specs.declared.events.Event.{Event}
 use Rattle.spec_duties.specs.declared.events.Event.TheVariants.{Builds, Expires, Recovers}
 use Rattle.spec_duties.specs.declared.observations.Block.{Block}
@@ -16,7 +17,6 @@ use Rattle.spec_duties.specs.declared.observations.Blocks.{Blocks}
 use Rattle.spec_duties.specs.declared.observations.SynChange.{SynChange}
 use Rattle.spec_duties.specs.declared.observations.SynChange.TheVariants as syn_change
 use Rattle.spec_duties.specs.declared.views.View.{View}
-use Rattle.spec_flights.specs.Flights.{goes_again}
 use Rattle.kept_flights.specs.Places.{Happens, IsStep, observed, seen_before}
 
 -- a step of the endpoint sends or takes a SYN
@@ -76,18 +76,18 @@ pub record HasBegunRecovery (h : Header) (xs : List (Stamped tcp_shape)) (place 
   pub no_timeout : (later : ℕ) (view : View) → begun < later → later < place
       → Happens (observed h xs later) me (Expires Rto) view → ⊥
 
--- by the `M` step at this place, the endpoint builds a segment with positions that it sent before, and not a FIN alone
-pub record BuildsAgain (h : Header) (xs : List (Stamped tcp_shape)) (place : ℕ) (me : EndpointId) (m : SegmentPlan)
+-- by the `M` step at this place, the endpoint builds a segment, but not its FIN alone that it sent before
+pub record IsBuilt (h : Header) (xs : List (Stamped tcp_shape)) (place : ℕ) (me : EndpointId) (m : SegmentPlan)
     : Type 0 where
   pub step : IsStep xs place me.host (Makes m)
   pub before : View
   pub happens : Happens (observed h xs place) me (Builds m) before
-  pub again : goes_again before m ≡ true
+  pub no_fin_alone : is_fin_alone m before ≡ false
 
--- what was reported, and is neither acknowledged nor built since, isn't built again in fast recovery
+-- once fast recovery began, what was reported, and is neither acknowledged nor built since, isn't built, until a timeout
 abbrev pub WhatWasReportedStays : Header → List (Stamped tcp_shape) → Type 0
 WhatWasReportedStays h xs =
     (reported again position : ℕ) (me : EndpointId) (m : SegmentPlan) → reported < again
     → BothPermit h xs reported me → IsReported h xs reported me position
     → StaysOut h xs reported again me position → HasBegunRecovery h xs again me
-    → BuildsAgain h xs again me m → Holds m position → ⊥
+    → IsBuilt h xs again me m → Holds m position → ⊥

@@ -17,8 +17,9 @@ ghost use Rattle.kept_flights.specs.Reported.{WhatWasReportedStays};
 use flights::what_is_told_stays;
 
 /// In version 6, at `congestion full` or `recovery`: once an endpoint began fast recovery, and until its retransmission
-/// timer expires, it builds no segment again with a position that a block reported to it, unless it built the position
-/// since (RFC 2018, 5 and 8; RFC 6675, 4, NextSeg). This is true of each case that gets a yes.
+/// timer expires, it builds no segment with an unacknowledged position that a block reported to it, unless it built the
+/// position since, or the segment is a FIN alone (RFC 2018, 5 and 8; RFC 6675, 4, NextSeg). This is true of each case
+/// that gets a yes.
 pub fn what_was_reported_stays()
     ensures yes { (t : Trace) (w : Witness) → Explains t w → says_sender t.header.version ≡ true
         → judges_repeats t.header.congestion ≡ true → WhatWasReportedStays t.header (stamped t.header t.lines w.steps) }
