@@ -84,7 +84,8 @@ pub record IsBuilt (h : Header) (xs : List (Stamped tcp_shape)) (place : ℕ) (m
   pub happens : Happens (observed h xs place) me (Builds m) before
   pub no_fin_alone : is_fin_alone m before ≡ false
 
--- from the beginning of fast recovery to a timeout, what was reported isn't built again before it is acknowledged
+-- once fast recovery began, and until a timeout, what was reported isn't built, if it is neither acknowledged nor built
+-- since the report
 abbrev pub WhatWasReportedStays : Header → List (Stamped tcp_shape) → Type 0
 WhatWasReportedStays h xs =
     (reported again position : ℕ) (me : EndpointId) (m : SegmentPlan) → reported < again
