@@ -1,5 +1,5 @@
 #!/usr/bin/env python3
-"""Lists the files that don't have the layout of `rt fmt`. `rt ci` refuses the crate of such a file, and `rt check` doesn't.
+"""Lists the files that `rt fmt` would change. `rt ci` refuses the crate of such a file, and `rt check` doesn't.
 
     tools/layout.py
 
@@ -12,13 +12,19 @@ import subprocess
 import sys
 
 TOP = os.path.dirname(os.path.dirname(os.path.abspath(__file__)))
-FOLDERS = ("src", "specs", "proofs")
+PATTERNS = [f"{folder}/**/*.{kind}" for folder in ("src", "specs", "proofs") for kind in ("rt", "antt")]
 
 
 def files_of(crate):
     """The files of a crate that have a layout."""
-    found = [glob.glob(f"{crate}/{folder}/**/*.{kind}", recursive=True) for folder in FOLDERS for kind in ("rt", "antt")]
-    return sorted(path for paths in found for path in paths)
+    return sorted(path for pattern in PATTERNS for path in glob.glob(f"{crate}/{pattern}", recursive=True))
+
+
+def complaint(rattle, crate):
+    """What the formatter says of a crate, or None if it would change no file."""
+    command = [rattle, "fmt", "--check", *files_of(crate)]
+    done = subprocess.run(command, stdin=subprocess.DEVNULL, stdout=subprocess.PIPE, stderr=subprocess.STDOUT, text=True)
+    return done.stdout.strip() if done.returncode else None
 
 
 def main():
@@ -26,16 +32,14 @@ def main():
     if rt is None:
         print("layout: there is no rt in PATH", file=sys.stderr)
         return 1
+    os.chdir(TOP)
     rattle = os.path.join(os.path.dirname(os.path.realpath(rt)), "rattle")
-    crates = sorted(glob.glob("crates/*", root_dir=TOP))
-    wrong = 0
-    for crate in crates:
-        checked = subprocess.run([rattle, "fmt", "--check", *files_of(os.path.join(TOP, crate))], stdin=subprocess.DEVNULL,
-                                 stdout=subprocess.PIPE, stderr=subprocess.STDOUT, text=True)
-        if checked.returncode != 0:
-            wrong += 1
-            print(f"{crate}: run `rt fmt` there", checked.stdout.strip().replace(TOP + "/", ""), sep="\n")
-    print(f"layout: {wrong} of {len(crates)} crates to be formatted")
+    crates = sorted(glob.glob("crates/*"))
+    complaints = {crate: complaint(rattle, crate) for crate in crates}
+    wrong = [crate for crate in crates if complaints[crate] is not None]
+    for crate in wrong:
+        print(f"{crate}: run `rt fmt` there", complaints[crate], sep="\n")
+    print(f"layout: {len(wrong)} of {len(crates)} crates to be formatted")
     return 1 if wrong else 0
 
 
