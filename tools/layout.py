@@ -23,7 +23,7 @@ def files_of(crate):
 def complaint(rattle, crate):
     """What the formatter says of a crate, or None if it would change no file."""
     command = [rattle, "fmt", "--check", *files_of(crate)]
-    done = subprocess.run(command, stdin=subprocess.DEVNULL, stdout=subprocess.PIPE, stderr=subprocess.STDOUT, text=True)
+    done = subprocess.run(command, stdout=subprocess.PIPE, stderr=subprocess.STDOUT, text=True)
     return done.stdout.strip() if done.returncode else None
 
 
