@@ -7,8 +7,8 @@ use plain_words::word_if;
 use seqno::{Word, read_near};
 use spec_tcp::Arrived;
 
-// The position that a number reads as near another position, if it is counted from an initial sequence number.
-fn position(number: Word, near: u64, base: Option<Word>) -> Option<u64> {
+/// The position that a number reads as near another position, if it is counted from an initial sequence number.
+pub(crate) fn position(number: Word, near: u64, base: Option<Word>) -> Option<u64> {
     if near < POSITIONS {
         read_near(near, base?, number)
     } else {

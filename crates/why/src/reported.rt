@@ -1,12 +1,12 @@
 //! What a selective acknowledgment reports, and the endpoint doesn't hold.
 
 use crate::late::describe_touched;
+use crate::numbers::position;
 use crate::scene::Scene;
 use case_forms::{OutOfMemory, Wire};
 use endpoint_state::Endpoint;
 use flights::Untrue;
 use segment::sack_block;
-use seqno::{Word, read_near};
 use spec_tcp::Emission;
 
 /// Writes why the blocks of a segment aren't true.
@@ -37,18 +37,18 @@ fn say_block(
     bytes: &[u8],
     place: usize,
 ) -> Result<(), OutOfMemory> {
-    let (Some(block), Some(irs)) = (sack_block(bytes, place), endpoint.irs) else {
+    let Some(block) = sack_block(bytes, place) else {
         return Ok(());
     };
-    let (number, next) = (place as u64 + 1, endpoint.rcv_nxt());
-    let left = position(next, irs, block.left);
-    let right = position(next, irs, block.right);
+    let (number, next) = (place.saturating_add(1), endpoint.rcv_nxt());
+    let left = position(block.left, next, endpoint.irs);
+    let right = position(block.right, next, endpoint.irs);
     match (left, right) {
         (Some(left), Some(right)) if left < right => writeln!(
             out,
             "block {number} reports the positions {left} to {}; from RCV.NXT on, which is {next}, the endpoint doesn't \
 hold all of them",
-            right - 1
+            right.saturating_sub(1)
         ),
         _ => writeln!(
             out,
@@ -56,11 +56,4 @@ hold all of them",
             block.left.0, block.right.0
         ),
     }
-}
-
-// The position that a number has near what is next in order.
-fn position(next: u64, irs: Word, number: Word) -> Option<u64>
-    requires { next < 2 ^ 63 }
-{
-    read_near(next, irs, number)
 }
