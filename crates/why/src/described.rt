@@ -3,7 +3,7 @@
 use crate::owed::describe_owed;
 use crate::probes::describe_probe;
 use crate::scene::Scene;
-use case_forms::{Host, OutOfMemory};
+use case_forms::{Host, OutOfMemory, Version};
 use endpoint_state::Endpoint;
 use line_fields::state_name;
 use plain_words::{HostName, word_if};
@@ -53,27 +53,39 @@ pub(crate) fn describe(out: &mut String, scene: &Scene, id: EndpointId) -> Resul
     };
     write!(out, "{when}, {}'s endpoint ", HostName(id.host))?;
     writeln!(out, "{lport} -> {rport}: {state}")?;
-    describe_values(out, endpoint)?;
+    describe_values(out, scene.header().version, endpoint)?;
     describe_probe(out, scene, id, endpoint)?;
     describe_owed(out, scene, id, endpoint)
 }
 
-fn describe_values(out: &mut String, endpoint: &Endpoint) -> Result<(), OutOfMemory> {
-    describe_sending(out, endpoint)?;
+fn describe_values(
+    out: &mut String,
+    version: Version,
+    endpoint: &Endpoint,
+) -> Result<(), OutOfMemory> {
+    describe_sending(out, version, endpoint)?;
     describe_receiving(out, endpoint)?;
     describe_windows(out, endpoint)?;
     describe_timers(out, endpoint)
 }
 
-fn describe_sending(out: &mut String, endpoint: &Endpoint) -> Result<(), OutOfMemory> {
+// From version 6 on, no position says what may be retransmitted.
+fn describe_sending(
+    out: &mut String,
+    version: Version,
+    endpoint: &Endpoint,
+) -> Result<(), OutOfMemory> {
     let (stream, recover) = (&endpoint.stream, endpoint.recover);
     let (una, sent, accepted) = (stream.snd_una, endpoint.snd_max(), stream.accepted.end());
-    let ended = word_if(stream.ended, ", sending has ended");
     write!(
         out,
         "  sending: SND.UNA {una}, sent up to {sent}, accepted from the program up to {accepted}"
     )?;
-    writeln!(out, "{ended}, may be retransmitted up to {recover}")
+    out.push_str(word_if(stream.ended, ", sending has ended"))?;
+    if !version.says_sender() {
+        write!(out, ", may be retransmitted up to {recover}")?;
+    }
+    out.push_str("\n")
 }
 
 // Before the peer's SYN, which has position 0, there is nothing to acknowledge and no window to advertise.
