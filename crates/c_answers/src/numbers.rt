@@ -68,7 +68,7 @@ fn fault_of(answer: &Answer) -> Option<TextFault>
 /// The rule with this number. None: no rule has it.
 pub(crate) fn rule_numbered(number: u32) -> Option<Rule>
     ensures found { (rule : Rule) → number ≡ rule_number rule → result ≡ Some rule }
-    ensures none { (number ≡ 0) ⊎ ((52 < number) × (number ≢ 56) × (number ≢ 57)) → result ≡ None }
+    ensures none { (number ≡ 0) ⊎ ((53 < number) × (number ≢ 56) × (number ≢ 57)) → result ≡ None }
 {
     Some(match number {
         1 => Rule::LineRange,
