@@ -217,7 +217,7 @@ moves_host_step : (h : Header) (s : ℕ) (w : World tcp_shape) (host : Host) (d 
     → Moves w (At host d) host (pick w.hosts host).body.endpoints
     (host_step_after (tcp h) host s (suc w.count) (pick w.hosts (other host)).wire (pick w.hosts host) d).body.endpoints
 moves_host_step h s w host (Does x) steady may =
-    moves_at_ports w (At host (Does x)) host (pick w.hosts host).body x.lport x.rport (λ e. after_recovery e x.cwnd x.ssthresh s) (λ e. refl)
+    moves_at_ports w (At host (Does x)) host (pick w.hosts host).body x.lport x.rport (λ e. after_recovery e x.change x.cwnd x.ssthresh s) (λ e. refl)
 moves_host_step h s w host (Expires line x) steady may =
     moves_at_ports w (At host (Expires line x)) host (pick w.hosts host).body x.lport x.rport
     (λ e. after_expiry e x.expired s) (λ e. expiry_stream x.expired e s)

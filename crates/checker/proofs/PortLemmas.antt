@@ -314,8 +314,8 @@ pub moved_host_step : (all : List CallDone) (h : Header) (s : ℕ) (w : World tc
     → (m.sender.host ≡ other host) × HasAt w.hosts m.sender m.lport m.rport) → Permitted (tcp h) s w (At host d)
     → Moved all w.hosts host (pick w.hosts host).body (host_step_after (tcp h) host s (suc w.count) (pick w.hosts (other host)).wire (pick w.hosts host) d).body
 moved_host_step all h s w host (Does x) from may =
-    moved_at_ports all w.hosts host (pick w.hosts host).body x.lport x.rport (λ e. after_recovery e x.cwnd x.ssthresh s)
-    (λ e. plain_end e (after_recovery e x.cwnd x.ssthresh s) refl refl refl)
+    moved_at_ports all w.hosts host (pick w.hosts host).body x.lport x.rport (λ e. after_recovery e x.change x.cwnd x.ssthresh s)
+    (λ e. plain_end e (after_recovery e x.change x.cwnd x.ssthresh s) refl refl refl)
 moved_host_step all h s w host (Expires line x) from may =
     moved_at_ports all w.hosts host (pick w.hosts host).body x.lport x.rport (λ e. after_expiry e x.expired s)
     (λ e. expiry_end e x.expired s)

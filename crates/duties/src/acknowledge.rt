@@ -55,7 +55,7 @@ pub(crate) fn asks_ack(event: &Event, state: State, moment: u64, acknowledged: O
         | Event::Builds(_)
         | Event::Sends(_)
         | Event::Expires(_)
-        | Event::Recovers => false,
+        | Event::Recovers(_) => false,
     }
 }
 
@@ -71,7 +71,7 @@ fn is_answer(event: &Event) -> bool
         | Event::Drops { .. }
         | Event::Builds(_)
         | Event::Expires(_)
-        | Event::Recovers => false,
+        | Event::Recovers(_) => false,
     }
 }
 
@@ -126,6 +126,6 @@ pub(crate) fn acknowledged_after(
         | Event::Drops { .. }
         | Event::Builds(_)
         | Event::Expires(_)
-        | Event::Recovers => acknowledged,
+        | Event::Recovers(_) => acknowledged,
     }
 }

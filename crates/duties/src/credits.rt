@@ -139,7 +139,7 @@ fn is_bare_ack(event: &Event, before: &View, after: &View) -> bool
         | Event::Drops { .. }
         | Event::Sends(_)
         | Event::Expires(_)
-        | Event::Recovers => false,
+        | Event::Recovers(_) => false,
     }
 }
 
@@ -156,7 +156,7 @@ fn is_below_oldest(event: &Event, before: &View) -> bool
         | Event::Drops { .. }
         | Event::Sends(_)
         | Event::Expires(_)
-        | Event::Recovers => false,
+        | Event::Recovers(_) => false,
     }
 }
 

@@ -51,7 +51,7 @@ fn is_arrival(event: &Event, before: &View) -> bool
         | Event::Builds(_)
         | Event::Sends(_)
         | Event::Expires(_)
-        | Event::Recovers => false,
+        | Event::Recovers(_) => false,
     }
 }
 

@@ -44,7 +44,7 @@ fn is_probe(event: &Event, v: &View) -> bool
         | Event::Processes { .. }
         | Event::Drops { .. }
         | Event::Builds(_)
-        | Event::Recovers => false,
+        | Event::Recovers(_) => false,
     }
 }
 

@@ -6,7 +6,7 @@ ghost use Rattle.spec_tcp.specs.Makes.Payload.{making_length};
 ghost use Rattle.spec_duties.specs.Resent.{again_after, begins_again, is_repeating, is_resent, is_resent_beyond};
 ghost use Rattle.spec_duties.specs.Resent.{judges_repeats, judges_windows, passed_by, repeated_end};
 
-use case_forms::{Judged, SegmentPlan, Timer};
+use case_forms::{Judged, RecoveryChange, SegmentPlan, Timer};
 use spec_duties::{Event, View};
 
 /// How many positions a segment occupies.
@@ -39,14 +39,17 @@ fn begins_again(event: &Event, before: &View, after: &View) -> bool
     ensures { result ≡ begins_again event.now before.now after.now }
 {
     match event {
-        Event::Expires(Timer::Rto | Timer::Persist) | Event::Recovers => true,
+        Event::Expires(Timer::Rto | Timer::Persist) | Event::Recovers(RecoveryChange::Begins) => {
+            true
+        }
         Event::Processes { .. } => before.timers.persist_armed.is_some() && 0 < after.snd_wnd,
         Event::Expires(Timer::Msl2 | Timer::Giveup | Timer::Pto)
         | Event::Opens
         | Event::Calls { .. }
         | Event::Drops { .. }
         | Event::Builds(_)
-        | Event::Sends(_) => false,
+        | Event::Sends(_)
+        | Event::Recovers(RecoveryChange::IsUndone) => false,
     }
 }
 
@@ -68,7 +71,7 @@ fn passed_by(event: &Event, before: &View, again: u64) -> u64
         | Event::Drops { .. }
         | Event::Sends(_)
         | Event::Expires(_)
-        | Event::Recovers => again,
+        | Event::Recovers(_) => again,
     }
 }
 
@@ -119,7 +122,7 @@ pub(crate) fn is_resent(judged: Judged, event: &Event, before: &View, again: u64
         | Event::Drops { .. }
         | Event::Sends(_)
         | Event::Expires(_)
-        | Event::Recovers => false,
+        | Event::Recovers(_) => false,
     }
 }
 
@@ -142,6 +145,6 @@ pub(crate) fn is_resent_beyond(judged: Judged, event: &Event, before: &View) -> 
         | Event::Drops { .. }
         | Event::Sends(_)
         | Event::Expires(_)
-        | Event::Recovers => false,
+        | Event::Recovers(_) => false,
     }
 }

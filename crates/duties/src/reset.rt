@@ -18,7 +18,7 @@ fn sends_reset(event: &Event) -> bool
         | Event::Drops { .. }
         | Event::Builds(_)
         | Event::Expires(_)
-        | Event::Recovers => false,
+        | Event::Recovers(_) => false,
     }
 }
 
@@ -34,7 +34,7 @@ fn aborts(event: &Event, after: &View) -> bool
         | Event::Builds(_)
         | Event::Sends(_)
         | Event::Expires(_)
-        | Event::Recovers => false,
+        | Event::Recovers(_) => false,
     }
 }
 

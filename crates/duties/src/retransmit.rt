@@ -60,7 +60,7 @@ fn sends_oldest(event: &Event, v: &View) -> bool
         | Event::Drops { .. }
         | Event::Builds(_)
         | Event::Expires(_)
-        | Event::Recovers => false,
+        | Event::Recovers(_) => false,
     }
 }
 

@@ -26,7 +26,7 @@ fn builds_again(event: &Event, v: &View) -> bool
         | Event::Drops { .. }
         | Event::Sends(_)
         | Event::Expires(_)
-        | Event::Recovers => false,
+        | Event::Recovers(_) => false,
     }
 }
 

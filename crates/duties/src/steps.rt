@@ -492,7 +492,7 @@ fn builds_mere_ack(after: &View, touched: &Option<TouchedEndpoint>) -> bool
         | Event::Drops { .. }
         | Event::Sends(_)
         | Event::Expires(_)
-        | Event::Recovers => false,
+        | Event::Recovers(_) => false,
     }
 }
 

@@ -55,7 +55,7 @@ fn builds_answer(event: &Event) -> bool
         | Event::Drops { .. }
         | Event::Sends(_)
         | Event::Expires(_)
-        | Event::Recovers => false,
+        | Event::Recovers(_) => false,
     }
 }
 
@@ -93,7 +93,7 @@ fn answered_after(event: &Event, moment: u64, answered: [Option<u64>; 10]) -> [O
         | Event::Drops { .. }
         | Event::Builds(_)
         | Event::Expires(_)
-        | Event::Recovers => answered,
+        | Event::Recovers(_) => answered,
     }
 }
 
@@ -120,7 +120,7 @@ fn asks_strictly(
         | Event::Builds(_)
         | Event::Sends(_)
         | Event::Expires(_)
-        | Event::Recovers => asks_ack(event, state, moment, acknowledged),
+        | Event::Recovers(_) => asks_ack(event, state, moment, acknowledged),
     }
 }
 
@@ -188,7 +188,7 @@ fn is_sent_before_text(event: &Event) -> bool
         | Event::Drops { .. }
         | Event::Builds(_)
         | Event::Expires(_)
-        | Event::Recovers => false,
+        | Event::Recovers(_) => false,
     }
 }
 
@@ -229,7 +229,7 @@ pub(crate) fn is_spared(event: &Event, before: &View) -> bool
         | Event::Drops { .. }
         | Event::Sends(_)
         | Event::Expires(_)
-        | Event::Recovers => false,
+        | Event::Recovers(_) => false,
     }
 }
 
@@ -258,7 +258,7 @@ fn rebuilds_oldest(event: &Event, v: &View) -> bool
         | Event::Drops { .. }
         | Event::Sends(_)
         | Event::Expires(_)
-        | Event::Recovers => false,
+        | Event::Recovers(_) => false,
     }
 }
 
@@ -361,7 +361,7 @@ fn sends_oldest_or_probe(event: &Event, v: &View) -> bool
         | Event::Drops { .. }
         | Event::Builds(_)
         | Event::Expires(_)
-        | Event::Recovers => false,
+        | Event::Recovers(_) => false,
     }
 }
 
@@ -397,7 +397,7 @@ fn sends_probe(event: &Event, v: &View) -> bool
         | Event::Drops { .. }
         | Event::Builds(_)
         | Event::Expires(_)
-        | Event::Recovers => false,
+        | Event::Recovers(_) => false,
     }
 }
 

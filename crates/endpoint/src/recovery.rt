@@ -1,8 +1,8 @@
-//! Fast recovery begins (RFC 5681, 3.2).
+//! Fast recovery begins (RFC 5681, 3.2), or is undone (RFC 4015, 3.2).
 
 ghost use Rattle.spec_tcp.specs.Bounds.{HasRoom};
 ghost use Rattle.spec_tcp.specs.Forgetting.{forget_endpoint};
-ghost use Rattle.spec_tcp.specs.Recovery.{after_recovery, greatest_at_recovery, is_bad_recovery, is_undone};
+ghost use Rattle.spec_tcp.specs.Recovery.{after_recovery, greatest_at_recovery, is_bad_change, is_bad_recovery};
 ghost use Rattle.spec_tcp.specs.Recovery.{recovery_rules};
 ghost use Rattle.spec_tcp.specs.Signals.{at_moment, recovery_signal};
 ghost use Rattle.std.specs.Prelude.{◌≡◌};
@@ -16,8 +16,9 @@ use spec_tcp::Endpoint;
 use verdict::Rule;
 use window_rules::GREATEST_WINDOW;
 
-/// Whether fast recovery may begin at an endpoint, with this congestion window and slow start threshold (in bytes).
-/// None is undone. From version 6 on, it may begin without duplicates. The error is the first rule that is broken.
+/// Whether fast recovery may begin at an endpoint, with this congestion window and slow start threshold (in bytes), or
+/// be undone. From version 6 on, it may begin without duplicates, and the model doesn't ask why it is undone. The error
+/// is the first rule that is broken.
 pub fn admits_recovery(
     version: Version,
     endpoint: &Endpoint,
@@ -34,18 +35,26 @@ pub fn admits_recovery(
     if !endpoint.is_up() {
         return Err(Rule::State);
     }
-    if is_undone(change) || is_bad_recovery(version, endpoint, cwnd, ssthresh, moment) {
+    if is_bad_change(version, endpoint, change, cwnd, ssthresh, moment) {
         return Err(Rule::Recovery);
     }
     Ok(())
 }
 
-fn is_undone(change: RecoveryChange) -> bool
-    ensures { result ≡ is_undone change }
+// In versions 1 to 5, none is undone.
+fn is_bad_change(
+    version: Version,
+    endpoint: &Endpoint,
+    change: RecoveryChange,
+    cwnd: u32,
+    ssthresh: u32,
+    moment: u64,
+) -> bool
+    ensures { result ≡ is_bad_change version endpoint.now change cwnd ssthresh moment }
 {
     match change {
-        RecoveryChange::Begins => false,
-        RecoveryChange::IsUndone => true,
+        RecoveryChange::Begins => is_bad_recovery(version, endpoint, cwnd, ssthresh, moment),
+        RecoveryChange::IsUndone => !version.says_sender(),
     }
 }
 
@@ -92,15 +101,26 @@ pub fn greatest_at_recovery(endpoint: &Endpoint, moment: u64) -> (u64, u64)
 }
 
 /// Fast recovery begins: the congestion window and the slow start threshold become these, in bytes, and all that was
-/// sent may be retransmitted (RFC 5681, 3.2, steps 2 and 3).
-pub fn recover(endpoint: &mut Endpoint, cwnd: u32, ssthresh: u32, moment: u64)
+/// sent may be retransmitted (RFC 5681, 3.2, steps 2 and 3). Undoing it changes nothing.
+pub fn recover(
+    endpoint: &mut Endpoint,
+    change: RecoveryChange,
+    cwnd: u32,
+    ssthresh: u32,
+    moment: u64,
+)
     requires { HasRoom endpoint.old }
-    ensures { endpoint.new ≡ forget_endpoint (after_recovery endpoint.old cwnd ssthresh moment) }
+    ensures { endpoint.new ≡ forget_endpoint (after_recovery endpoint.old change cwnd ssthresh moment) }
 {
-    let signal = recovery_signal(endpoint, ssthresh);
-    let control = endpoint
-        .control
-        .after(signal, at_moment(endpoint, moment), cwnd, ssthresh);
-    endpoint.recover = endpoint.snd_max();
-    endpoint.control = control;
+    match change {
+        RecoveryChange::Begins => {
+            let signal = recovery_signal(endpoint, ssthresh);
+            let control = endpoint
+                .control
+                .after(signal, at_moment(endpoint, moment), cwnd, ssthresh);
+            endpoint.recover = endpoint.snd_max();
+            endpoint.control = control;
+        }
+        RecoveryChange::IsUndone => {}
+    }
 }

@@ -3,6 +3,8 @@ use Rattle.std.proofs.Common.{◌≡◌, ℕ, suc, ◌^◌, ◌<◌, Bool, true,
 use Rattle.std.specs.Prelude.{◌==◌, ◌&&◌, nat_le, if◌then◌else◌}
 use Rattle.std.specs.Option.{option_map_or}
 use Rattle.std.proofs.lemmas.List.{length-append, length-take}
+use Rattle.case_forms.specs.declared.timer.RecoveryChange.{RecoveryChange}
+use Rattle.case_forms.specs.declared.timer.RecoveryChange.TheVariants.{Begins, IsUndone}
 use Rattle.case_forms.specs.declared.version.Version.{Version}
 use Rattle.case_forms.specs.declared.calls.State.{State}
 use Rattle.case_forms.specs.declared.calls.State.TheVariants as states
@@ -260,8 +262,8 @@ after_expiry_bounded Pto moment steps e b =
       unmet = later.unmet;
     }
 
-pub after_recovery_bounded : (cwnd ssthresh moment steps : ℕ) (e : Endpoint) → IsBounded steps e → IsBounded (suc steps) (after_recovery e cwnd ssthresh moment)
-after_recovery_bounded cwnd ssthresh moment steps e b =
+pub after_recovery_bounded : (change : RecoveryChange) (cwnd ssthresh moment steps : ℕ) (e : Endpoint) → IsBounded steps e → IsBounded (suc steps) (after_recovery e change cwnd ssthresh moment)
+after_recovery_bounded Begins cwnd ssthresh moment steps e b =
     let later = bounded_later steps e b in
     record {
       snd_una = b.snd_una;
@@ -273,4 +275,15 @@ after_recovery_bounded cwnd ssthresh moment steps e b =
       accepted = later.accepted;
       met = b.met;
       unmet = b.unmet;
+    }
+after_recovery_bounded IsUndone cwnd ssthresh moment steps e b =
+    let later = bounded_later steps e b in
+    record {
+      snd_una = later.snd_una;
+      counts = later.counts;
+      unanswered_expiries = later.unanswered_expiries;
+      backoffs = later.backoffs;
+      accepted = later.accepted;
+      met = later.met;
+      unmet = later.unmet;
     }

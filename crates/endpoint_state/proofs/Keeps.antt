@@ -3,6 +3,7 @@ use Rattle.std.proofs.Common.{◌≡◌, ℕ, ◌<◌, Bool, true, false, List, 
 use Rattle.std.specs.Prelude.{if◌then◌else◌, slice_set}
 use Rattle.std.specs.List.{All}
 use Rattle.std.proofs.lemmas.Option.{none-some}
+use Rattle.case_forms.specs.declared.timer.RecoveryChange.{RecoveryChange}
 use Rattle.case_forms.specs.declared.trace.Header.{Header}
 use Rattle.spec_tcp.specs.declared.endpoint.Endpoint.{Endpoint}
 use Rattle.spec_tcp.specs.declared.endpoint.Emission.{Emission}
@@ -54,8 +55,8 @@ keeps_expired e Msl2 moment = record { lport = refl; rport = refl; listener = λ
 keeps_expired e Giveup moment = record { lport = refl; rport = refl; listener = λ l is. is }
 keeps_expired e Pto moment = record { lport = refl; rport = refl; listener = λ l is. is }
 
-pub keeps_recovered : (e : Endpoint) (cwnd ssthresh moment : ℕ) → Keeps e (after_recovery e cwnd ssthresh moment)
-keeps_recovered e cwnd ssthresh moment = record { lport = refl; rport = refl; listener = λ l is. is }
+pub keeps_recovered : (e : Endpoint) (change : RecoveryChange) (cwnd ssthresh moment : ℕ) → Keeps e (after_recovery e change cwnd ssthresh moment)
+keeps_recovered e change cwnd ssthresh moment = record { lport = refl; rport = refl; listener = λ l is. is }
 
 pub keeps_taken : (h : Header) (e : Endpoint) (how : TakeChoice) (m : Emission) (moment : ℕ) → Keeps e (endpoint_taken h e how m moment)
 keeps_taken h e how m moment = by m.flags.rst (is_syn_sent e.state)

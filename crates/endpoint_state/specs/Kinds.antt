@@ -79,7 +79,7 @@ abbrev pub recovering_rules : Version → (moment : ℕ) → Recovery → HostTc
 recovering_rules v moment r b = rules_at b r.lport r.rport (λ x. recovery_rules v x r.change r.cwnd r.ssthresh moment)
 
 abbrev pub recovered_body : (moment : ℕ) → Recovery → HostTcp → HostTcp
-recovered_body moment r b = at_ports b r.lport r.rport (λ x. after_recovery x r.cwnd r.ssthresh moment)
+recovered_body moment r b = at_ports b r.lport r.rport (λ x. after_recovery x r.change r.cwnd r.ssthresh moment)
 
 -- the rules of taking, dropping and answering what waits with that line
 abbrev pub taking_rules : Header → Host → (moment line : ℕ) → TakeChoice → HostState tcp_shape → List (Rule × Bool)

@@ -20,7 +20,7 @@ ghost use Rattle.streams.specs.Received.{waiting};
 ghost use Rattle.endpoint_state.specs.Changes.{changed, orphan_each};
 ghost use Rattle.streams.specs.Lists.{modify};
 
-use case_forms::{Expired, Header, SegmentPlan, TakeChoice};
+use case_forms::{Expired, Header, RecoveryChange, SegmentPlan, TakeChoice};
 use endpoint::take_segment;
 use segment::OutOfMemory;
 use spec_tcp::{Arrived, Emission, Endpoint, EndpointId};
@@ -160,15 +160,15 @@ impl Endpoints {
         }
     }
 
-    /// Fast recovery begins at the endpoint at a place, with this congestion window and slow start threshold (in
-    /// bytes), at a moment in microseconds.
-    pub(crate) fn recover(&mut self, place: u32, cwnd: u32, ssthresh: u32, moment: u64)
+    /// Fast recovery begins at the endpoint at a place, or is undone, with this congestion window and slow start
+    /// threshold (in bytes), at a moment in microseconds.
+    pub(crate) fn recover(&mut self, place: u32, change: RecoveryChange, cwnd: u32, ssthresh: u32, moment: u64)
         requires { All HasRoom self.old }
-        ensures { self.new ≡ changed self.old place (λ e. after_recovery e cwnd ssthresh moment) }
+        ensures { self.new ≡ changed self.old place (λ e. after_recovery e change cwnd ssthresh moment) }
     {
         let place = place as usize;
         if place < self.all.len() {
-            endpoint::recover(&mut self.all[place], cwnd, ssthresh, moment);
+            endpoint::recover(&mut self.all[place], change, cwnd, ssthresh, moment);
         }
     }
 

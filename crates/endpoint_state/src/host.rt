@@ -214,7 +214,7 @@ pub(crate) fn expire(
     host.body.expire(header, ports, expired, moment)
 }
 
-/// Fast recovery begins. The error is the first broken rule; nothing is changed then.
+/// Fast recovery begins, or is undone. The error is the first broken rule; nothing is changed then.
 pub(crate) fn recover(
     header: &Header,
     host: &mut HostState,
@@ -398,7 +398,7 @@ impl HostState {
         Ok(())
     }
 
-    /// Whether fast recovery may begin. The error is the first broken rule.
+    /// Whether fast recovery may begin, or be undone. The error is the first broken rule.
     pub(crate) fn admits_recovery(
         &self,
         version: Version,

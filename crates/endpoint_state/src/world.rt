@@ -265,7 +265,8 @@ impl World {
             .admits_expiry(&self.header, ports, expired, moment)
     }
 
-    /// Whether fast recovery may begin at a moment in microseconds (RFC 5681, 3.2). The error is the first broken rule.
+    /// Whether fast recovery may begin at a moment in microseconds (RFC 5681, 3.2), or be undone (RFC 4015, 3.2). The
+    /// error is the first broken rule.
     pub fn admits_recovery(&self, host: Host, moment: u64, recovery: Recovery) -> Result<(), Rule>
         ensures { result_err result ≡ first_broken
             (step_rules (tcp self.now.header) moment self.now.world (At host (Does recovery))) }
@@ -474,8 +475,8 @@ impl World {
         Ok(())
     }
 
-    /// Fast recovery begins, at a moment in microseconds (RFC 5681, 3.2). The error is the first broken rule; the world
-    /// is then as it was.
+    /// Fast recovery begins (RFC 5681, 3.2), or is undone (RFC 4015, 3.2), at a moment in microseconds. The error is the
+    /// first broken rule; the world is then as it was.
     pub fn recover(&mut self, host: Host, recovery: Recovery, moment: u64) -> Result<(), Rule>
         requires { self.old.steps < most_steps }
         ensures rule { result_err result ≡ first_broken

@@ -147,7 +147,7 @@ impl Flight {
                 if repeats && goes_again(v, plan) && !self.may_go_again(clock, v, plan) => {
                 Some(Rule::OldData)
             }
-            Event::Recovers if repeats && !self.may_begin(clock, v) => Some(Rule::Recovery),
+            Event::Recovers(_) if repeats && !self.may_begin(clock, v) => Some(Rule::Recovery),
             Event::Expires(Timer::Pto) => self.probe_broken(clock, v),
             Event::Opens
             | Event::Calls { .. }
@@ -156,7 +156,7 @@ impl Flight {
             | Event::Builds(_)
             | Event::Sends(_)
             | Event::Expires(Timer::Rto | Timer::Persist | Timer::Msl2 | Timer::Giveup)
-            | Event::Recovers => None,
+            | Event::Recovers(_) => None,
         }
     }
 
@@ -185,7 +185,7 @@ impl Flight {
                     && !are_selective(sides)
                     && is_repairing(after, recovery)
             }
-            Event::Recovers => !(are_selective(sides) && self.finds_lost(clock, &touched.before)),
+            Event::Recovers(_) => !(are_selective(sides) && self.finds_lost(clock, &touched.before)),
             Event::Opens
             | Event::Calls { .. }
             | Event::Drops { .. }
@@ -208,7 +208,7 @@ impl Flight {
     {
         match event {
             Event::Builds(plan) => self.rescued || self.uses_rescue(clock, before, plan),
-            Event::Expires(Timer::Rto) | Event::Recovers => false,
+            Event::Expires(Timer::Rto) | Event::Recovers(_) => false,
             Event::Opens
             | Event::Calls { .. }
             | Event::Processes { .. }

@@ -59,7 +59,7 @@ fn marked_by_event(event: &Event, after: &View, oldest: bool) -> Stretch
         | Event::Builds(_)
         | Event::Sends(_)
         | Event::Expires(Timer::Persist | Timer::Msl2 | Timer::Giveup | Timer::Pto)
-        | Event::Recovers => {
+        | Event::Recovers(_) => {
             if oldest {
                 oldest_segment(after)
             } else {
@@ -123,7 +123,7 @@ pub(crate) fn taken_by(event: &Event, before: &View) -> Stretch
         | Event::Drops { .. }
         | Event::Sends(_)
         | Event::Expires(_)
-        | Event::Recovers => no_positions(),
+        | Event::Recovers(_) => no_positions(),
     }
 }
 

@@ -101,7 +101,7 @@ fn probe_after(event: &Event, before: &View, after: &View, probe: Probe) -> Prob
 {
     match event {
         Event::Expires(Timer::Pto) => Probe::Due,
-        Event::Expires(Timer::Rto) | Event::Recovers => Probe::Nothing,
+        Event::Expires(Timer::Rto) | Event::Recovers(_) => Probe::Nothing,
         Event::Builds(plan) => probe_built(before, after, plan, probe),
         Event::Opens
         | Event::Calls { .. }
@@ -126,7 +126,7 @@ fn ends_quiet(event: &Event, before: &View, after: &View, probe: Probe) -> bool
         | Event::Drops { .. }
         | Event::Sends(_)
         | Event::Expires(_)
-        | Event::Recovers => false,
+        | Event::Recovers(_) => false,
     }
 }
 

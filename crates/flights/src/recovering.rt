@@ -40,7 +40,7 @@ pub(crate) fn recovery_after(event: &Event, after: &View, recovery: Recovery) ->
             point: after.snd_max,
             is_fast: false,
         },
-        Event::Recovers => Recovery {
+        Event::Recovers(_) => Recovery {
             point: after.snd_max,
             is_fast: true,
         },

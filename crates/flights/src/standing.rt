@@ -149,7 +149,7 @@ impl Flight {
     fn decisive(&self, clock: u128, event: &Event, v: &View) -> Option<u64> {
         match event {
             Event::Builds(plan) => self.first_kept(clock, v, plan),
-            Event::Recovers => self.board.first_in_flight(v),
+            Event::Recovers(_) => self.board.first_in_flight(v),
             Event::Opens
             | Event::Calls { .. }
             | Event::Processes { .. }

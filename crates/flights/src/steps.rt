@@ -77,7 +77,7 @@ impl Scoreboard {
                 self.build(number, now.moment, stretch_built(&plan, before, after))?;
             }
             Event::Expires(Timer::Rto | Timer::Persist) => self.give_up(),
-            Event::Recovers => self.settle(now.recovers, now.clock),
+            Event::Recovers(_) => self.settle(now.recovers, now.clock),
             Event::Opens
             | Event::Calls { .. }
             | Event::Drops { .. }

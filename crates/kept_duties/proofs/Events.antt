@@ -61,7 +61,7 @@ events_by_steps t w place moment me event a =
         (d.1, subst (λ (m : ℕ). SendsAt t w place m me.host d.1) a.time (sends_at t w place a.act a.is me.host d.0 d.1 d.2 d.3))
     by (Expires timer) d =
         subst (λ (m : ℕ). ExpiresAt t w place m me.host timer) a.time (expires_at t w place a.act a.is me.host d.0 d.1 timer d.2 d.3)
-    by Recovers d = (d.0, hidden (labels.F me.host d.0) (ap hidden_label d.1))
+    by (Recovers change) d = (d.0, d.2, hidden (labels.F me.host d.0) (ap hidden_label d.1))
     by (Calls aborts) d = (d.0, d.1, hidden (labels.D d.0 d.1) (ap hidden_label d.2))
     by Opens d = (d.0, d.1, hidden (labels.D d.0 d.1) (ap hidden_label d.2))
 
@@ -143,13 +143,13 @@ module _ (t : Trace) (w : Witness) (slack : ℕ) (r : Run t.header slack (length
       makes_happen place moment (At host (model.Makes m)) host (Builds m) acts (ports_touched v host (Builds m) m.lport m.rport p.0 p.1)
 
   recovering : (place moment : ℕ) (host : Host) (recovery : Recovery) → IsStep w place moment (labels.F host recovery)
-      → HappensThere t w place moment host Recovers
+      → HappensThere t w place moment host (Recovers recovery.change)
   recovering place moment host recovery is =
       let acts = act_of_step place moment (labels.F host recovery) (At host (model.Does recovery)) is (λ span. refl) in
       let goes = goes_of t w slack r place (record { moment = moment; step = At host (model.Does recovery) }) acts in
       let v = (known_before t w place).model in
       let p = map_or_passes (endpoint_of (pick v.hosts host).body recovery.lport recovery.rport) rules.NoEndpoint _ goes.permitted in
-      makes_happen place moment (At host (model.Does recovery)) host Recovers acts (ports_touched v host Recovers recovery.lport recovery.rport p.0 p.1)
+      makes_happen place moment (At host (model.Does recovery)) host (Recovers recovery.change) acts (ports_touched v host (Recovers recovery.change) recovery.lport recovery.rport p.0 p.1)
 
   expiring : (place moment : ℕ) (host : Host) (timer : Timer) → ExpiresAt t w place moment host timer → HappensThere t w place moment host (Expires timer)
   expiring place moment host timer a =

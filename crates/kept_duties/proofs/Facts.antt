@@ -1,6 +1,7 @@
 -- What the definitions say of a few steps.
 use Rattle.std.proofs.Common.{◌≡◌, ℕ, inl, inr, true, false, [], ◌∷◌, None, Some, refl, arith}
 use Rattle.std.specs.Prelude.{◌==◌}
+use Rattle.case_forms.specs.declared.timer.RecoveryChange.TheVariants as change
 use Rattle.case_forms.specs.declared.calls.Host.TheVariants.{Zero, One}
 use Rattle.case_forms.specs.declared.named_line.Extras.TheVariants as extras
 use Rattle.case_forms.specs.declared.named_line.NamedLine.{NamedLine}
@@ -160,7 +161,7 @@ not_with_a_window = refl
 ends_at_four : again_end sent_four bytes ≡ 4
 ends_at_four = refl
 
-recovery_begins : begins happening.Recovers sent_four sent_four ≡ true
+recovery_begins : begins (happening.Recovers change.Begins) sent_four sent_four ≡ true
 recovery_begins = refl
 
 building_does_not : begins (happening.Builds bytes) sent_four sent_four ≡ false
@@ -170,9 +171,9 @@ one_in_three : count_before (λ place. place == 1) 3 ≡ 1
 one_in_three = refl
 
 abbrev touches_zero : TouchedEndpoint
-touches_zero = record { host = Zero; place = 0; event = happening.Recovers; before = unborn }
+touches_zero = record { host = Zero; place = 0; event = happening.Recovers change.Begins; before = unborn }
 
-for_its_endpoint : event_for (record { host = Zero; number = 0 }) (Some touches_zero) ≡ Some happening.Recovers
+for_its_endpoint : event_for (record { host = Zero; number = 0 }) (Some touches_zero) ≡ Some (happening.Recovers change.Begins)
 for_its_endpoint = refl
 
 for_no_other_place : event_for (record { host = Zero; number = 1 }) (Some touches_zero) ≡ None
@@ -193,7 +194,7 @@ later_position_is_not (inl held) = omega (arith, held.0)
 later_position_is_not (inr (inl shut)) = cc shut
 later_position_is_not (inr (inr more)) = omega (arith, more)
 
-acknowledged_instead : SendsOldest happening.Recovers sent_four (record sent_four { snd_una = 2 })
+acknowledged_instead : SendsOldest (happening.Recovers change.Begins) sent_four (record sent_four { snd_una = 2 })
 acknowledged_instead = omega arith
 
 reset_is_sent : SendsReset (happening.Sends (record { flags = record ack.flags { rst = true }; pos = 4; length = 0; before_text = false })) sent_four sent_four
@@ -248,13 +249,13 @@ not_with_another_time = refl
 abbrev shut : View
 shut = record sent_four { snd_wnd = 0; end = 10; rcv_nxt = 1 }
 
-shut_at_seventy : probes_after happening.Recovers sent_four shut 70 None ≡ Some (record { since = 70; count = 0 })
+shut_at_seventy : probes_after (happening.Recovers change.Begins) sent_four shut 70 None ≡ Some (record { since = 70; count = 0 })
 shut_at_seventy = refl
 
 probed_at_ninety : probes_after (happening.Expires Persist) shut shut 90 (Some (record { since = 70; count = 0 })) ≡ Some (record { since = 90; count = 1 })
 probed_at_ninety = refl
 
-opened_again : probes_after happening.Recovers shut sent_four 95 (Some (record { since = 90; count = 1 })) ≡ None
+opened_again : probes_after (happening.Recovers change.Begins) shut sent_four 95 (Some (record { since = 90; count = 1 })) ≡ None
 opened_again = refl
 
 after_two_probes : probe_time shut 2 ≡ 4000000

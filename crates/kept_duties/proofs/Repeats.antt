@@ -4,6 +4,7 @@ use Rattle.std.specs.Prelude.{◌&&◌, if◌then◌else◌, max, nat_le, nat_lt
 use Rattle.std.proofs.lemmas.Bool.Decides.{nat_tests}
 use Rattle.case_forms.specs.States.{is_closed}
 use Rattle.case_forms.specs.Versions.{says_sender}
+use Rattle.case_forms.specs.declared.timer.RecoveryChange.TheVariants.{Begins}
 use Rattle.case_forms.specs.declared.steps.SegmentPlan.{SegmentPlan}
 use Rattle.case_forms.specs.declared.steps.Witness.{Witness}
 use Rattle.case_forms.specs.declared.timer.Timer.TheVariants.{Persist, Rto}
@@ -50,7 +51,7 @@ judged_repeats judged.NoControl not_none = absurd (not_none refl)
 begins_is : (event : Event) (before after : View) → begins_again event before after ≡ begins event before after
 begins_is (Expires Rto) before after = refl
 begins_is (Expires Persist) before after = refl
-begins_is Recovers before after = refl
+begins_is (Recovers Begins) before after = refl
 begins_is (Processes length rst) before after = refl
 begins_is event before after = refl
 

@@ -76,7 +76,8 @@ IsBy t w place moment host (Drops asks unlimited) = (line : ℕ) × IsStep w pla
 IsBy t w place moment host (Builds m) = IsStep w place moment (labels.M host m)
 IsBy t w place moment host (Sends s) = (number : ℕ) × SendsAt t w place moment host number
 IsBy t w place moment host (Expires timer) = ExpiresAt t w place moment host timer
-IsBy t w place moment host Recovers = (recovery : Recovery) × IsStep w place moment (labels.F host recovery)
+IsBy t w place moment host (Recovers change) =
+    (recovery : Recovery) × (recovery.change ≡ change) × IsStep w place moment (labels.F host recovery)
 IsBy t w place moment host (Calls aborts) =
     (thread : ℕ) × (answer : Answer) × IsStep w place moment (labels.D thread answer)
 IsBy t w place moment host Opens =
@@ -93,8 +94,8 @@ abbrev pub HappensThere : Trace → Witness → (place moment : ℕ) → Host �
 HappensThere t w place moment host event =
     (number : ℕ) × Happens t w place moment (record { host = host; number = number }) event
 
--- the other way round: each step that processes or builds a segment, lets a timer expire or begins fast recovery does
--- this at an endpoint
+-- the other way round: each step that processes or builds a segment, lets a timer expire, begins fast recovery or undoes
+-- one does this at an endpoint
 pub record StepsAreEvents (t : Trace) (w : Witness) : Type 0 where
   pub processes : (place moment line : ℕ) (host : Host) (choice : TakeChoice)
       → IsStep w place moment (labels.T host line choice)
@@ -105,4 +106,5 @@ pub record StepsAreEvents (t : Trace) (w : Witness) : Type 0 where
   pub expires : (place moment : ℕ) (host : Host) (timer : Timer) → ExpiresAt t w place moment host timer
       → HappensThere t w place moment host (Expires timer)
   pub recovers : (place moment : ℕ) (host : Host) (recovery : Recovery)
-      → IsStep w place moment (labels.F host recovery) → HappensThere t w place moment host Recovers
+      → IsStep w place moment (labels.F host recovery)
+      → HappensThere t w place moment host (Recovers recovery.change)

@@ -1,6 +1,7 @@
 -- What a yes with a slack says of data that is sent again: each position once for each expiry (RFC 6298, 5.4 and 5.5;
 -- RFC 5681, 3.2), and within the congestion window.
 use Rattle.std.specs.Prelude.{◌≡◌, ◌+◌, ◌<◌, ◌≤◌, ℕ, suc, min, nat_lt, Bool, true, false, ◌&&◌, is_some}
+use Rattle.case_forms.specs.declared.timer.RecoveryChange.TheVariants.{Begins}
 use Rattle.case_forms.specs.declared.steps.SegmentPlan.{SegmentPlan}
 use Rattle.case_forms.specs.declared.steps.Witness.{Witness}
 use Rattle.case_forms.specs.declared.timer.Timer.TheVariants.{Persist, Rto}
@@ -17,7 +18,7 @@ use Rattle.kept_duties.specs.Happens.{Happens, seen_before}
 abbrev pub begins : Event → (before after : View) → Bool
 begins (Expires Rto) before after = true
 begins (Expires Persist) before after = true
-begins Recovers before after = true
+begins (Recovers Begins) before after = true
 begins (Processes length rst) before after = is_some before.timers.persist_armed && nat_lt 0 after.snd_wnd
 begins event before after = false
 

@@ -146,7 +146,7 @@ second_stays_out = record { unbuilt = λ place m before low high. only place m b
     only place m before is here holds =
         let there : Happens (observed six run 20) sender (Builds m) before =
         subst (λ (n : ℕ). Happens (observed six run n) sender (Builds m) before) is here in
-        let same : Recovers ≡ Builds m = ap (λ (o : Option TouchedEndpoint). option_map_or (λ t. t.event) o Recovers) there in
+        let same : Recovers Begins ≡ Builds m = ap (λ (o : Option TouchedEndpoint). option_map_or (λ t. t.event) o (Recovers Begins)) there in
         absurd cc
 
 recovery_has_begun : HasBegunRecovery six run 21 sender

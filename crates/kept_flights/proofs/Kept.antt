@@ -6,6 +6,7 @@ use Rattle.std.specs.FinSet.{FinSet, contains, contains-difference, contains-uni
 use Rattle.std.specs.Ordering.{nat_cmp}
 use Rattle.std.proofs.lemmas.Bool.Decides.{nat_tests}
 use Rattle.case_forms.specs.States.{is_syn_sent}
+use Rattle.case_forms.specs.declared.timer.RecoveryChange.TheVariants.{Begins, IsUndone}
 use Rattle.case_forms.specs.declared.steps.SegmentPlan.{SegmentPlan}
 use Rattle.case_forms.specs.declared.timer.Timer.TheVariants.{Persist, Rto}
 use Rattle.streams.specs.Pieces.{acknowledged, known_from, made}
@@ -57,7 +58,8 @@ peers_keeps c s none is = is
 pub fast_keeps : (event : Event) (after : View) (r : Recovery) → (event ≡ Expires Rto → ⊥) → r.is_fast ≡ true
     → (recovery_after event after r).is_fast ≡ true
 fast_keeps (Expires Rto) after r none is = absurd (none refl)
-fast_keeps Recovers after r none is = refl
+fast_keeps (Recovers Begins) after r none is = refl
+fast_keeps (Recovers IsUndone) after r none is = is
 fast_keeps event after r none is = by (nat_le r.point after.snd_una)
   where
     by : (b : Bool) → (if b then record r { point = 0 } else r).is_fast ≡ true
@@ -154,7 +156,8 @@ module _ (p : ℕ) where
       built_keeps number moment (stretch_built m before after) (settled recovers clock b) (stretch_out m before after (none m refl)) is
   board_keeps moment clock recovers number (Expires Rto) before after r b low none is = is
   board_keeps moment clock recovers number (Expires Persist) before after r b low none is = is
-  board_keeps moment clock recovers number Recovers before after r b low none is = is
+  board_keeps moment clock recovers number (Recovers Begins) before after r b low none is = is
+  board_keeps moment clock recovers number (Recovers IsUndone) before after r b low none is = is
   board_keeps moment clock recovers number event before after r b low none is = is
 
   -- ---- what is reported now

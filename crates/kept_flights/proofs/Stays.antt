@@ -7,6 +7,7 @@ use Rattle.std.specs.Option.{option_map_or}
 use Rattle.std.proofs.lemmas.Bool.Decides.{nat_tests}
 use Rattle.std.proofs.lemmas.Option.{same_Some}
 use Rattle.case_forms.specs.Versions.{says_sender}
+use Rattle.case_forms.specs.declared.timer.RecoveryChange.TheVariants.{Begins}
 use Rattle.case_forms.specs.declared.steps.SegmentPlan.{SegmentPlan}
 use Rattle.case_forms.specs.declared.trace.Header.{Header}
 use Rattle.streams.specs.Ranges.{meets}
@@ -93,8 +94,8 @@ module _ (h : Header) (xs : List (Stamped tcp_shape)) (me : EndpointId) (six : s
   fast place r =
       let less = r.begun_before in
       run_keeps h xs six (λ f. f.recovery.is_fast ≡ true) me (suc r.begun) place (omega (arith, less))
-      (place_makes h xs six (λ f. f.recovery.is_fast ≡ true) me r.begun Recovers r.before r.begins (λ moment clock event before here.
-      let same = one_event (observed h xs r.begun) me Recovers event r.before before r.begins here in
+      (place_makes h xs six (λ f. f.recovery.is_fast ≡ true) me r.begun (Recovers Begins) r.before r.begins (λ moment clock event before here.
+      let same = one_event (observed h xs r.begun) me (Recovers Begins) event r.before before r.begins here in
       subst (λ (e : Event). (recovery_after e (seen_before h xs (suc r.begun) me) (flight_before h xs r.begun me).recovery).is_fast ≡ true) same.0 refl))
       (λ later low high is moment clock event before here.
       fast_keeps event (seen_before h xs (suc later) me) (flight_before h xs later me).recovery

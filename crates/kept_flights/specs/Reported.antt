@@ -1,6 +1,7 @@
 -- What a block reported isn't sent again in fast recovery (RFC 2018, 5 and 8; RFC 6675, 4, NextSeg).
 use Rattle.std.specs.Prelude.{◌≡◌, ◌+◌, ◌<◌, ◌≤◌, ℕ, nat_le, nat_lt, Bool, true, false, ◌&&◌, ◌||◌, List, Option}
 use Rattle.std.specs.Option.{option_map_or}
+use Rattle.case_forms.specs.declared.timer.RecoveryChange.TheVariants.{Begins}
 use Rattle.case_forms.specs.declared.steps.SegmentPlan.{SegmentPlan}
 use Rattle.case_forms.specs.declared.steps.TakeChoice.{TakeChoice}
 use Rattle.case_forms.specs.declared.timer.Timer.TheVariants.{Rto}
@@ -72,7 +73,7 @@ pub record HasBegunRecovery (h : Header) (xs : List (Stamped tcp_shape)) (place 
   pub begun : ℕ
   pub begun_before : begun < place
   pub before : View
-  pub begins : Happens (observed h xs begun) me Recovers before
+  pub begins : Happens (observed h xs begun) me (Recovers Begins) before
   pub no_timeout : (later : ℕ) (view : View) → begun < later → later < place
       → Happens (observed h xs later) me (Expires Rto) view → ⊥
 

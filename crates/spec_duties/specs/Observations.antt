@@ -41,6 +41,7 @@ use Rattle.spec_duties.specs.Dropped.{discards_at, is_old, reads_old_numbers}
 use Rattle.spec_duties.specs.Sampling.{sampling_at}
 use Rattle.spec_duties.specs.Blocks.{blocks_taken, no_blocks}
 use Rattle.spec_duties.specs.Kept.{kept_at, nothing_kept}
+use Rattle.spec_duties.specs.Arrivals.{arrival_at, stamps_read}
 use Rattle.spec_duties.specs.Answering.{CallChange, answering, beginning, judged_call, judged_socket, socket_changing}
 use Rattle.spec_duties.specs.declared.answering.CallChange.TheVariants as call_change
 use Rattle.spec_duties.specs.declared.answering.SocketChange.TheVariants as socket_change
@@ -70,6 +71,8 @@ unseen = record {
   syn_change = syn_change.Nothing;
   blocks = no_blocks;
   kept = nothing_kept;
+  stamps = None;
+  arrival = None;
   call_change = call_change.Nothing;
   socket_change = socket_change.Nothing;
 }
@@ -163,6 +166,8 @@ observe_taking h host b line how m t =
       syn_change = syn_taken h.version m t;
       blocks = blocks_taken h.version m t;
       kept = kept_at h.version how m t;
+      stamps = stamps_read h.version m.bytes;
+      arrival = arrival_at h.version m t;
     }
 
 abbrev pub observe_dropping : Version → Host → HostTcp → (line : ℕ) → (taking answering : Option Rule) → Emission
@@ -174,13 +179,15 @@ observe_dropping v host b line taking answering m t =
       dropping = Some (dropping_of host taking answering (droppable_by v b m t) (is_old v m t));
       earns = earns_by_dropping v m taking t;
       syn_change = syn_dropped v m t;
+      stamps = stamps_read v m.bytes;
+      arrival = arrival_at v m t;
     }
 
 -- of a step of a host; `fresh` is the number of the next segment to be built
 abbrev pub observe_host_step : Header → (moment : ℕ) → World tcp_shape → (fresh : ℕ) → Host → HostState tcp_shape
     → HostStep tcp_shape → Observation
 observe_host_step h moment w fresh host s (network.Does x) =
-    touching (at_ports host s.body events.Recovers x.lport x.rport)
+    touching (at_ports host s.body (events.Recovers x.change) x.lport x.rport)
 observe_host_step h moment w fresh host s (network.Expires line x) =
     touching (at_ports host s.body (events.Expires (timer_of x.expired)) x.lport x.rport)
 observe_host_step h moment w fresh host s (network.Makes m) =
@@ -195,6 +202,7 @@ observe_host_step h moment w fresh host s (network.Sends line number wire) =
       touched = at_sender host s.body wire m.emission;
       built_change = built_change.Sends number;
       syn_change = syn_sent h.version m.emission wire.bytes;
+      stamps = stamps_read h.version wire.bytes;
     })
 observe_host_step h moment w fresh host s (network.Gets line copied wire) =
     record unseen { inbox_change = inbox_change.Enters line }

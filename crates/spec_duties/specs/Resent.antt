@@ -1,6 +1,7 @@
 -- How often data is sent again: each position once for each expiry (RFC 6298, 5.4 and 5.5; RFC 5681, 3.2), and never
 -- beyond the congestion window (RFC 5681, 3.1). From version 6 on, this isn't judged as a duty.
 use Rattle.std.specs.Prelude.{ℕ, ◌+◌, nat_le, nat_lt, min, max, Bool, true, false, not, ◌&&◌, if◌then◌else◌, is_some}
+use Rattle.case_forms.specs.declared.timer.RecoveryChange.TheVariants.{Begins}
 use Rattle.case_forms.specs.declared.steps.SegmentPlan.{SegmentPlan}
 use Rattle.case_forms.specs.declared.timer.Timer.TheVariants.{Rto, Persist}
 use Rattle.case_forms.specs.declared.version.Judged.{Judged}
@@ -23,7 +24,7 @@ repeated_end v m = min (m.pos + making_length m) v.snd_max
 abbrev pub begins_again : Event → (before after : View) → Bool
 begins_again (Expires Rto) before after = true
 begins_again (Expires Persist) before after = true
-begins_again Recovers before after = true
+begins_again (Recovers Begins) before after = true
 begins_again (Processes length rst) before after = is_some before.timers.persist_armed && nat_lt 0 after.snd_wnd
 begins_again event before after = false
 

@@ -1,6 +1,6 @@
 //! What a step does at an endpoint.
 
-use case_forms::{Flags, SegmentPlan, Timer};
+use case_forms::{Flags, RecoveryChange, SegmentPlan, Timer};
 
 /// A segment that is sent.
 #[derive(Clone, Copy)]
@@ -42,6 +42,6 @@ pub enum Event {
     Sends(Sending),
     /// The line of a timer that expires.
     Expires(Timer),
-    /// `F`: fast recovery begins.
-    Recovers,
+    /// `F`: fast recovery begins. `U`: a recovery is undone.
+    Recovers(RecoveryChange),
 }

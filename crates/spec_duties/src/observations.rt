@@ -4,6 +4,7 @@ use crate::answering::{CallChange, SocketChange};
 use crate::events::Event;
 use crate::views::View;
 use case_forms::Host;
+use segment::Timestamps;
 
 /// What a step does to an inbox.
 #[derive(Clone, Copy)]
@@ -96,6 +97,17 @@ pub struct Kept {
     pub upto: u64,
 }
 
+/// A segment that reaches an endpoint, as that reads it.
+#[derive(Clone, Copy)]
+pub struct Arrival {
+    /// The position of its sequence number.
+    pub pos: u64,
+    /// The position of its acknowledgment number; 0 if it has none.
+    pub ack: u64,
+    /// How many positions it occupies (SEG.LEN).
+    pub length: u128,
+}
+
 /// A segment that is dropped.
 #[derive(Clone, Copy)]
 pub struct Dropping {
@@ -137,6 +149,12 @@ pub struct Observation {
     pub blocks: Blocks,
     /// What is kept of that segment. Versions 1 to 5 don't ask.
     pub kept: Kept,
+    /// The timestamps of the segment that is sent, processed or dropped (RFC 7323, 3.2). `None`: it has none, or versions
+    /// 1 to 5 don't ask.
+    pub stamps: Option<Timestamps>,
+    /// The segment that is processed or dropped. `None`: it is a reset, or reaches no endpoint that knows the peer's SYN.
+    /// Versions 1 to 5 don't ask.
+    pub arrival: Option<Arrival>,
     /// What it does to the call of a thread, and to a socket. Versions 1 to 5 don't ask.
     pub call_change: CallChange,
     pub socket_change: SocketChange,

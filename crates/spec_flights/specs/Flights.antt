@@ -12,6 +12,7 @@ use Rattle.case_forms.specs.Versions.{says_sender}
 use Rattle.case_forms.specs.declared.calls.Host.{Host}
 use Rattle.case_forms.specs.declared.steps.SegmentPlan.{SegmentPlan}
 use Rattle.case_forms.specs.declared.timer.Timer.TheVariants.{Pto, Rto, Persist}
+use Rattle.case_forms.specs.declared.timer.RecoveryChange.TheVariants.{Begins, IsUndone}
 use Rattle.case_forms.specs.declared.trace.Header.{Header}
 use Rattle.segment.specs.Reading.{sack_blocks}
 use Rattle.verdict.specs.declared.rule.Rule.{Rule}
@@ -28,8 +29,6 @@ use Rattle.spec_duties.specs.Resent.{judges_repeats}
 use Rattle.spec_duties.specs.Strict.{is_fin_alone}
 use Rattle.spec_duties.specs.declared.events.Event.{Event}
 use Rattle.spec_duties.specs.declared.events.Event.TheVariants.{Builds, Expires, Processes, Recovers}
-use Rattle.spec_duties.specs.declared.observations.BuiltChange.{BuiltChange}
-use Rattle.spec_duties.specs.declared.observations.BuiltChange.TheVariants as built_change
 use Rattle.spec_duties.specs.declared.observations.Observation.{Observation}
 use Rattle.spec_duties.specs.declared.observations.TouchedEndpoint.{TouchedEndpoint}
 use Rattle.spec_duties.specs.declared.views.View.{View}
@@ -40,12 +39,14 @@ use Rattle.spec_flights.specs.Marks.{marks_after, old_part, opens_probed}
 use Rattle.spec_flights.specs.Probing.{Probing, is_due, is_early_probe, is_none, not_probing, probing_after}
 use Rattle.spec_flights.specs.Recovering.{Recovery, is_recovering, is_repairing, none_begun, recovery_after}
 use Rattle.spec_flights.specs.Scoreboard.{Scoreboard, nothing_built, stretch_built, with_built, with_given_up}
+use Rattle.spec_flights.specs.Scoreboard.{with_nothing_given_up}
 use Rattle.spec_flights.specs.Sides.{Sides, are_selective, neither, sides_after}
 use Rattle.spec_flights.specs.Stretches.{Stretch}
+use Rattle.spec_flights.specs.Undoing.{Undoing, goes_again, needed, number_built, undoing_after}
 
 -- what is kept of an endpoint: what the two SYNs permit, from which loss it recovers, which positions are marked, in
--- order, what is known of each outstanding one, whether it made use of a rescue since the recovery began, and how far a
--- probe for a loss is; and which positions of its peer's stream it holds beyond what is next, in order
+-- order, what is known of each outstanding one, whether it made use of a rescue since the recovery began, how far a
+-- probe for a loss is, and whether the recovery was needed; and which positions of its peer's stream it holds beyond what is next, in order
 pub record Flight : Type 0 where
   pub sides : Sides
   pub recovery : Recovery
@@ -53,6 +54,7 @@ pub record Flight : Type 0 where
   pub board : Scoreboard
   pub rescued : Bool
   pub probing : Probing
+  pub undoing : Undoing
   pub held : List ℕ
 
 abbrev pub unflown : Flight
@@ -63,6 +65,7 @@ unflown = record {
   board = nothing_built;
   rescued = false;
   probing = not_probing;
+  undoing = needed;
   held = [];
 }
 
@@ -115,10 +118,6 @@ is_rescue clock v f old =
     && covers (from_list f.board.told) old.upto v.snd_max
     && not (has_below (resent_below true clock f.board) v f.board)
 
--- it holds positions that were sent before, and isn't a FIN without bytes
-abbrev pub goes_again : View → SegmentPlan → Bool
-goes_again v m = nat_lt 0 (making_length m) && nat_lt m.pos v.snd_max && not (is_fin_alone m v)
-
 -- the probe that is due is what was sent last (RFC 8985, 7.3)
 abbrev pub is_probe : View → SegmentPlan → Flight → Bool
 is_probe v m f =
@@ -158,7 +157,9 @@ probe_broken clock v f =
 abbrev pub broken_at : (repeats : Bool) → (clock : ℕ) → Event → View → Flight → Option Rule
 broken_at repeats clock (Builds m) v f =
     if repeats && goes_again v m && not (may_go_again clock v m f) then Some rules.OldData else None
-broken_at repeats clock Recovers v f = if repeats && not (may_begin clock v f) then Some rules.Recovery else None
+broken_at repeats clock (Recovers Begins) v f =
+    if repeats && not (may_begin clock v f) then Some rules.Recovery else None
+broken_at repeats clock (Recovers IsUndone) v f = if not f.undoing.is_spurious then Some rules.Recovery else None
 broken_at repeats clock (Expires Pto) v f = probe_broken clock v f
 broken_at repeats clock event v f = None
 
@@ -189,13 +190,8 @@ repairs_plainly v sides r = not (are_selective sides) && is_repairing v r
 abbrev pub marks_oldest : (clock : ℕ) → Event → (before after : View) → Sides → Recovery → Flight → Bool
 marks_oldest clock (Processes length rst) before after sides r f =
     acknowledges_more before after && repairs_plainly after sides r
-marks_oldest clock Recovers before after sides r f = not (are_selective sides && finds_lost clock before f)
+marks_oldest clock (Recovers Begins) before after sides r f = not (are_selective sides && finds_lost clock before f)
 marks_oldest clock event before after sides r f = false
-
--- the number under which a step builds a segment
-abbrev pub number_built : BuiltChange → ℕ
-number_built (built_change.Builds number) = number
-number_built change = 0
 
 -- what is known of outstanding positions after a segment was processed: a reset shows nothing, nor does what the
 -- endpoint takes before it is open
@@ -217,7 +213,9 @@ board_after moment clock recovers number (Builds m) before after r b =
     with_built number moment (stretch_built m before after) (settled recovers clock b)
 board_after moment clock recovers number (Expires Rto) before after r b = with_given_up b
 board_after moment clock recovers number (Expires Persist) before after r b = with_given_up b
-board_after moment clock recovers number Recovers before after r b = settled recovers clock b
+board_after moment clock recovers number (Recovers Begins) before after r b = settled recovers clock b
+board_after moment clock recovers number (Recovers IsUndone) before after r b =
+    with_nothing_given_up (settled recovers clock b)
 board_after moment clock recovers number event before after r b = b
 
 -- a segment is sent again though nothing is lost, none of it is marked, and it is no probe
@@ -228,7 +226,7 @@ uses_rescue clock v m f =
 abbrev pub rescued_after : (clock : ℕ) → Event → (before : View) → Flight → Bool
 rescued_after clock (Builds m) before f = f.rescued || uses_rescue clock before m f
 rescued_after clock (Expires Rto) before f = false
-rescued_after clock Recovers before f = false
+rescued_after clock (Recovers Begins) before f = false
 rescued_after clock event before f = f.rescued
 
 abbrev pub flight_by : (moment clock : ℕ) → Observation → TouchedEndpoint → (after : View) → Sides → Recovery → Flight
@@ -244,6 +242,8 @@ flight_by moment clock s t after sides r f = record {
       (read_reports sides s.blocks) f.board;
   rescued = rescued_after clock t.event t.before f;
   probing = probing_after moment t.event t.before after f.probing;
+  undoing =
+      undoing_after s t.event t.before after sides f.recovery (read_reports sides s.blocks) f.board f.undoing;
   held = held_after s.kept after.rcv_nxt f.held;
 }
 

@@ -2,11 +2,12 @@
 use Rattle.std.specs.Prelude.{ℕ, ◌+◌, nat_lt, min, Bool, true, ◌&&◌, if◌then◌else◌, List, is_some}
 use Rattle.std.specs.FinSet.{difference, from_list, items, union}
 use Rattle.case_forms.specs.declared.steps.SegmentPlan.{SegmentPlan}
+use Rattle.case_forms.specs.declared.timer.RecoveryChange.TheVariants.{IsUndone}
 use Rattle.case_forms.specs.declared.timer.Timer.TheVariants.{Rto}
 use Rattle.streams.specs.Ranges.{span}
 use Rattle.spec_tcp.specs.Makes.Payload.{making_length}
 use Rattle.spec_duties.specs.declared.events.Event.{Event}
-use Rattle.spec_duties.specs.declared.events.Event.TheVariants.{Builds, Expires}
+use Rattle.spec_duties.specs.declared.events.Event.TheVariants.{Builds, Expires, Recovers}
 use Rattle.spec_duties.specs.declared.observations.SynChange.{SynChange}
 use Rattle.spec_duties.specs.Strict.{is_fin_alone}
 use Rattle.spec_duties.specs.declared.views.View.{View}
@@ -43,7 +44,8 @@ marked_by (syn_change.Takes permits true) event after oldest = own_syn after
 marked_by syn_change.ComesAgain event after oldest = own_syn after
 marked_by change event after oldest = marked_by_event event after oldest
 
--- ---- sending takes the mark; a FIN without bytes needs none, and takes none (RFC 9293, 3.10.4)
+-- ---- sending takes the mark; a FIN without bytes needs none, and takes none (RFC 9293, 3.10.4). If the recovery wasn't
+-- needed, nothing needs to go again
 
 -- the positions of a segment that were sent before
 abbrev pub old_part : View → SegmentPlan → Stretch
@@ -51,6 +53,7 @@ old_part v m = record { from = m.pos; upto = min (m.pos + making_length m) v.snd
 
 abbrev pub taken_by : Event → View → Stretch
 taken_by (Builds m) before = if is_fin_alone m before then no_positions else old_part before m
+taken_by (Recovers IsUndone) before = outstanding before
 taken_by event before = no_positions
 
 -- what is marked after a step, in order; what is acknowledged is not, nor what blocks report

@@ -3,6 +3,7 @@ use Rattle.std.specs.Prelude.{ℕ, ◌+◌, ◌*◌, nat_le, nat_lt, min, Bool, 
 use Rattle.std.specs.Prelude.{None, Some}
 use Rattle.std.specs.Option.{option_map_or}
 use Rattle.case_forms.specs.declared.steps.SegmentPlan.{SegmentPlan}
+use Rattle.case_forms.specs.declared.timer.RecoveryChange.TheVariants.{Begins}
 use Rattle.case_forms.specs.declared.timer.Timer.TheVariants.{Pto, Rto}
 use Rattle.spec_tcp.specs.Makes.Payload.{making_length}
 use Rattle.spec_duties.specs.Events.{acknowledges_more}
@@ -56,7 +57,7 @@ probe_built before after m probe = if is_due probe && makes_positions before m t
 abbrev pub probe_after : Event → (before after : View) → Probe → Probe
 probe_after (Expires Pto) before after probe = Due
 probe_after (Expires Rto) before after probe = Nothing
-probe_after Recovers before after probe = Nothing
+probe_after (Recovers Begins) before after probe = Nothing
 probe_after (Builds m) before after probe = probe_built before after m probe
 probe_after event before after probe = probe_before after probe
 

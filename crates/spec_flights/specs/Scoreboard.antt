@@ -75,3 +75,7 @@ with_built number moment s b =
 -- after a timeout, and where the window is closed or opens again, all that was built so far is given up
 abbrev pub with_given_up : Scoreboard → Scoreboard
 with_given_up b = record b { given_up = b.newest }
+
+-- a recovery that wasn't needed gives up nothing
+abbrev pub with_nothing_given_up : Scoreboard → Scoreboard
+with_nothing_given_up b = record b { given_up = 0 }

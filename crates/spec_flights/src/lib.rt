@@ -6,13 +6,15 @@
 //! This crate has no code, only the values that are kept and the definitions. `flights` implements them.
 //!
 //! - `sides`: what the two SYNs permitted; `recovery`: from which loss an endpoint recovers; `stretch`: some positions;
-//!   `making`: segments that were built; `reports`: what blocks report; `probing`: probes for a loss
+//!   `making`: segments that were built; `reports`: what blocks report; `probing`: probes for a loss;
+//!   `undoing`: whether a recovery was needed
 //!
 //! The definitions:
 //!
 //! - `specs/Sides`: which endpoints acknowledge selectively
 //! - `specs/Recovering`: up to which position an endpoint recovers from a loss
 //! - `specs/Probing`: when a probe for a loss is due, and until when it is on its way
+//! - `specs/Undoing`: when an acknowledgment shows that a recovery wasn't needed
 //! - `specs/Scoreboard`: what is known of outstanding positions, and what building a segment changes of it
 //! - `specs/Late`: what is lost, since something that was sent later was delivered
 //! - `specs/Delivered`: what an acknowledgment delivers, by its number and by its blocks
@@ -27,6 +29,7 @@ mod recovery;
 mod reports;
 mod sides;
 mod stretch;
+mod undoing;
 
 pub use making::{Latest, Making};
 pub use probing::{Probe, Probing};
@@ -34,3 +37,4 @@ pub use recovery::Recovery;
 pub use reports::Reports;
 pub use sides::Sides;
 pub use stretch::Stretch;
+pub use undoing::{Again, Began, Undoing};

@@ -133,7 +133,7 @@ act-forgets h me moment b (Takes how m) = rw (taker-forget b m) (taking-forgets 
 act-forgets h me moment b (Resets m) = body-forget b
 act-forgets h me moment b (Expires x) = ports-forgets b x.lport x.rport (λ e. after_expiry e x.expired moment) (expiry-forgets x.expired moment)
 act-forgets h me moment b (Recovers x) =
-    ports-forgets b x.lport x.rport (λ e. after_recovery e x.cwnd x.ssthresh moment) (recovery-forgets x.cwnd x.ssthresh moment)
+    ports-forgets b x.lport x.rport (λ e. after_recovery e x.change x.cwnd x.ssthresh moment) (recovery-forgets x.change x.cwnd x.ssthresh moment)
 
 -- a permitted segment below the oldest position that is not acknowledged is empty
 empty_below : (v : Version) (e : Endpoint) (m : SegmentPlan) → is_bad_payload e m ≡ false → is_bad_place v e m ≡ false → m.pos < e.stream.snd_una → m.len ≡ 0

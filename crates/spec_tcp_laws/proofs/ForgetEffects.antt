@@ -10,6 +10,8 @@ use Rattle.spec_tcp.specs.Calls.Send.{after_send}
 use Rattle.spec_tcp.specs.Calls.Receive.{after_recv}
 use Rattle.spec_tcp.specs.Calls.Close.{shut_down, after_ending, after_shut, after_close, after_abort, orphaned}
 use Rattle.case_forms.specs.States.{is_syn_sent}
+use Rattle.case_forms.specs.declared.timer.RecoveryChange.{RecoveryChange}
+use Rattle.case_forms.specs.declared.timer.RecoveryChange.TheVariants.{Begins, IsUndone}
 use Rattle.case_forms.specs.declared.steps.SegmentPlan.{SegmentPlan}
 use Rattle.spec_tcp.specs.Makes.Payload.{making_length}
 use Rattle.spec_tcp.specs.Makes.{endpoint_made, after_making}
@@ -126,5 +128,6 @@ expiry_same Pto moment e = refl
 pub expiry-forgets : (x : Expired) (moment : ℕ) → Forgets (λ e. after_expiry e x moment)
 expiry-forgets x moment = forgets (λ e. after_expiry e x moment) (expiry_same x moment)
 
-pub recovery-forgets : (cwnd ssthresh moment : ℕ) → Forgets (λ e. after_recovery e cwnd ssthresh moment)
-recovery-forgets cwnd ssthresh moment = forgets (λ e. after_recovery e cwnd ssthresh moment) (λ e. rw (snd_max-forget e) refl)
+pub recovery-forgets : (change : RecoveryChange) (cwnd ssthresh moment : ℕ) → Forgets (λ e. after_recovery e change cwnd ssthresh moment)
+recovery-forgets Begins cwnd ssthresh moment = forgets (λ e. after_recovery e Begins cwnd ssthresh moment) (λ e. rw (snd_max-forget e) refl)
+recovery-forgets IsUndone cwnd ssthresh moment = forgets (λ e. after_recovery e IsUndone cwnd ssthresh moment) (λ e. refl)

@@ -3,6 +3,7 @@ use Rattle.std.proofs.Common.{◌≡◌, ℕ, ◌-◌, Bool, true, false, not, �
 use Rattle.std.specs.Option.{option_map_or}
 use Rattle.std.proofs.lemmas.Bool.Decides.{nat_tests}
 use Rattle.case_forms.specs.Versions.{says_slack}
+use Rattle.case_forms.specs.declared.timer.RecoveryChange.TheVariants.{Begins, IsUndone}
 use Rattle.case_forms.specs.declared.version.Version.{Version}
 use Rattle.streams.specs.Transmissions.{retransmitted}
 use Rattle.case_forms.specs.declared.trace.Header.{Header}
@@ -85,4 +86,5 @@ expiry_rules-forget h moment e Pto = rw (rcv_nxt-forget e, snd_max-forget e) ref
 
 pub recovery_rules-forget : (v : Version) (e : Endpoint) (change : RecoveryChange) (cwnd ssthresh moment : ℕ)
     → recovery_rules v (forget_endpoint e) change cwnd ssthresh moment ≡ recovery_rules v e change cwnd ssthresh moment
-recovery_rules-forget v e change cwnd ssthresh moment = rw (rcv_nxt-forget e, snd_max-forget e) refl
+recovery_rules-forget v e Begins cwnd ssthresh moment = rw (rcv_nxt-forget e, snd_max-forget e) refl
+recovery_rules-forget v e IsUndone cwnd ssthresh moment = refl

@@ -150,7 +150,7 @@ act_kept j h me moment b (Resets m) = refl
 act_kept j h me moment b (Expires x) =
     ports_kept (profile_of (header_by j h)) b x.lport x.rport (λ e. after_expiry e x.expired moment) (expiry_kept (profile_of (header_by j h)) x.expired moment)
 act_kept j h me moment b (Recovers x) =
-    ports_kept (profile_of (header_by j h)) b x.lport x.rport (λ e. after_recovery e x.cwnd x.ssthresh moment)
+    ports_kept (profile_of (header_by j h)) b x.lport x.rport (λ e. after_recovery e x.change x.cwnd x.ssthresh moment)
     (recovery_kept (profile_of (header_by j h)) x.cwnd x.ssthresh moment)
 
 -- the segment that is made

@@ -3,6 +3,8 @@ use Rattle.std.proofs.Common.{◌≡◌, ℕ, Bool, true, false, List, None, ref
 use Rattle.std.specs.Prelude.{◌==◌}
 use Rattle.std.specs.Option.{option_map_or}
 use Rattle.case_forms.specs.States.{is_syn_sent}
+use Rattle.case_forms.specs.declared.timer.RecoveryChange.{RecoveryChange}
+use Rattle.case_forms.specs.declared.timer.RecoveryChange.TheVariants.{Begins, IsUndone}
 use Rattle.case_forms.specs.declared.calls.State.{State}
 use Rattle.case_forms.specs.declared.calls.State.TheVariants as states
 use Rattle.case_forms.specs.declared.steps.SegmentPlan.{SegmentPlan}
@@ -97,10 +99,11 @@ expiry_kept p Msl2 moment e = refl
 expiry_kept p Giveup moment e = refl
 expiry_kept p Pto moment e = refl
 
-pub recovery_kept : (p : Profile) (cwnd ssthresh moment : ℕ) → Keeps p (λ e. after_recovery e cwnd ssthresh moment) (λ e. after_recovery e cwnd ssthresh moment)
-recovery_kept p cwnd ssthresh moment e =
-    ap (λ (c : Control). record (after_recovery e cwnd ssthresh moment) { control = c })
+pub recovery_kept : (p : Profile) (change : RecoveryChange) (cwnd ssthresh moment : ℕ) → Keeps p (λ e. after_recovery e change cwnd ssthresh moment) (λ e. after_recovery e change cwnd ssthresh moment)
+recovery_kept p Begins cwnd ssthresh moment e =
+    ap (λ (c : Control). record (after_recovery e Begins cwnd ssthresh moment) { control = c })
     (not_read e.control p (recovery_signal e ssthresh) (at_moment e moment) cwnd ssthresh)
+recovery_kept p IsUndone cwnd ssthresh moment e = refl
 
 acknowledged_same : (p : Profile) (state : State) (e : Endpoint) (m : Emission) → acknowledged state (endpoint_by p e) m ≡ acknowledged state e m
 acknowledged_same p states.SynReceived e m = refl

@@ -4,6 +4,7 @@ use Rattle.std.specs.Prelude.{nat_lt, ◌&&◌, ◌||◌, ◌==◌, not}
 use Rattle.std.specs.List.{AllByRecursion}
 use Rattle.std.proofs.lemmas.Bool.Decides.{nat_tests}
 use Rattle.case_forms.specs.Versions.{says_sender}
+use Rattle.case_forms.specs.declared.timer.RecoveryChange.TheVariants.{Begins, IsUndone}
 use Rattle.case_forms.specs.declared.steps.SegmentPlan.{SegmentPlan}
 use Rattle.case_forms.specs.declared.steps.TakeChoice.{TakeChoice}
 use Rattle.case_forms.specs.declared.taken_line.Expired.{Expired}
@@ -35,7 +36,7 @@ use Rattle.spec_tcp.specs.Endpoints.{snd_max}
 use Rattle.spec_tcp.specs.HostTcp.{HostTcp}
 use Rattle.spec_tcp.specs.Makes.{making_rules}
 use Rattle.spec_tcp.specs.Makes.Payload.{has_new_bytes}
-use Rattle.spec_tcp.specs.Recovery.{is_bad_recovery, is_undone, recovery_rules}
+use Rattle.spec_tcp.specs.Recovery.{is_bad_recovery, recovery_rules}
 use Rattle.spec_tcp.specs.Signals.{at_moment, profile_named, recovery_signal, signal_of, timeout_signal}
 use Rattle.spec_tcp.specs.Timeouts.{expiry_rules, greatest_values, grows_above, is_above}
 use Rattle.spec_tcp_laws.specs.Judging.{body_by, endpoint_by, extent, header_by}
@@ -171,8 +172,8 @@ bad_passes v p e cwnd ssthresh moment may fine =
 pub recovery_passes : (v : Version) (p : Profile) (e : Endpoint) (change : RecoveryChange) (cwnd ssthresh moment : ℕ) → MayJudge p e
     → first_broken (recovery_rules v e change cwnd ssthresh moment) ≡ None
     → first_broken (recovery_rules v (endpoint_by p e) change cwnd ssthresh moment) ≡ None
-recovery_passes v p e change cwnd ssthresh moment may passed =
-    let t = none_all (recovery_rules v e change cwnd ssthresh moment) passed in
-    let fine = neither (is_undone change) (is_bad_recovery v e cwnd ssthresh moment) t.1.1.0 in
-    all_none (recovery_rules v (endpoint_by p e) change cwnd ssthresh moment)
-    (t.0, (t.1.0, (both_false _ _ fine.0 (bad_passes v p e cwnd ssthresh moment may fine.1), t.1.1.1)))
+recovery_passes v p e Begins cwnd ssthresh moment may passed =
+    let t = none_all (recovery_rules v e Begins cwnd ssthresh moment) passed in
+    all_none (recovery_rules v (endpoint_by p e) Begins cwnd ssthresh moment)
+    (t.0, (t.1.0, (bad_passes v p e cwnd ssthresh moment may t.1.1.0, t.1.1.1)))
+recovery_passes v p e IsUndone cwnd ssthresh moment may passed = passed

@@ -6,6 +6,7 @@ use Rattle.std.proofs.lemmas.Bool.Decides.{nat_tests}
 use Rattle.std.proofs.lemmas.Option.{same_Some}
 use Rattle.case_forms.specs.States.{is_syn_sent}
 use Rattle.case_forms.specs.Versions.{says_sender}
+use Rattle.case_forms.specs.declared.timer.RecoveryChange.TheVariants.{Begins, IsUndone}
 use Rattle.case_forms.specs.declared.calls.Answer.{Answer}
 use Rattle.case_forms.specs.declared.calls.Call.{Call}
 use Rattle.case_forms.specs.declared.calls.Host.{Host}
@@ -38,7 +39,7 @@ use Rattle.spec_tcp.specs.HostTcp.{HostTcp, endpoint_of}
 use Rattle.spec_tcp.specs.Machine.{Act, aim, act_rules, gives, rules_at, tcp, tcp_shape}
 use Rattle.spec_tcp.specs.Machine as acts
 use Rattle.spec_tcp.specs.Makes.{making_rules}
-use Rattle.spec_tcp.specs.Recovery.{is_bad_recovery, is_undone, recovery_rules}
+use Rattle.spec_tcp.specs.Recovery.{is_bad_recovery, recovery_rules}
 use Rattle.spec_tcp.specs.Signals.{at_moment, profile_of, recovery_signal}
 use Rattle.spec_tcp.specs.Timeouts.{expiry_rules}
 use Rattle.spec_tcp.specs.declared.endpoint.Emission.{Emission}
@@ -72,7 +73,8 @@ expiry_alike p j h moment e Pto = refl
 
 recovery_alike : (v : Version) (p : Profile) (e : Endpoint) (change : RecoveryChange) (cwnd ssthresh moment : ℕ)
     → Alike (recovery_rules v (endpoint_by p e) change cwnd ssthresh moment) (recovery_rules v e change cwnd ssthresh moment)
-recovery_alike v p e change cwnd ssthresh moment = refl
+recovery_alike v p e Begins cwnd ssthresh moment = refl
+recovery_alike v p e IsUndone cwnd ssthresh moment = refl
 
 taker_alike : (p : Profile) (j : Judged) (h : Header) (me : Host) (b : HostTcp) (how : TakeChoice) (m : Emission) (moment : ℕ) (t : Taker)
     → Alike (taker_rules (header_by j h) me (body_by p b) how m moment (taker_by p t)) (taker_rules h me b how m moment t)
@@ -240,12 +242,11 @@ duplicate true dup false is may = (grind (arith, nat_tests), refl)
 duplicate false dup fast is may = absurd cc
 
 pub recovery_is_due : RecoveryIsDue
-recovery_is_due v e change cwnd ssthresh moment passed =
-    let t = none_all (recovery_rules v e change cwnd ssthresh moment) passed in
-    let fine = neither (is_undone change) (is_bad_recovery v e cwnd ssthresh moment) t.1.1.0 in
+recovery_is_due v e cwnd ssthresh moment passed =
+    let t = none_all (recovery_rules v e Begins cwnd ssthresh moment) passed in
     let window =
     neither (not (says_sender v || may_recover e.control) || e.stream.snd_una == snd_max e || nat_lt ((greatest e.control now (at_moment e moment)).1) ssthresh)
-    (nat_lt ((greatest e.control now (at_moment e moment)).0) cwnd) fine.1 in
+    (nat_lt ((greatest e.control now (at_moment e moment)).0) cwnd) t.1.1.0 in
     let threshold =
     neither (not (says_sender v || may_recover e.control) || e.stream.snd_una == snd_max e)
     (nat_lt ((greatest e.control now (at_moment e moment)).1) ssthresh) window.0 in

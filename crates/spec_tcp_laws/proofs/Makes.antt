@@ -4,6 +4,7 @@ use Rattle.std.specs.Prelude.{if◌then◌else◌, ◌==◌, ◌&&◌, ◌||◌,
 use Rattle.std.specs.Option.{option_map, option_map_or}
 use Rattle.std.proofs.Math.Nat.{le_refl}
 use Rattle.std.proofs.lemmas.Option.{none-some, same_Some}
+use Rattle.case_forms.specs.declared.timer.RecoveryChange.{RecoveryChange}
 use Rattle.case_forms.specs.declared.calls.Host.{Host}
 use Rattle.verdict.specs.declared.rule.Rule.TheVariants as rules
 use Rattle.verdict.specs.Rules.{first_broken}
@@ -184,5 +185,5 @@ plain_expiry Msl2 moment e = record { stream = refl; irs = refl; waits = λ x. a
 plain_expiry Giveup moment e = record { stream = refl; irs = refl; waits = λ x. absurd cc }
 plain_expiry Pto moment e = record { stream = refl; irs = refl; waits = λ x. x }
 
-pub plain_recovery : (cwnd ssthresh moment : ℕ) (e : Endpoint) → Plain e (after_recovery e cwnd ssthresh moment)
-plain_recovery cwnd ssthresh moment e = record { stream = refl; irs = refl; waits = λ x. x }
+pub plain_recovery : (change : RecoveryChange) (cwnd ssthresh moment : ℕ) (e : Endpoint) → Plain e (after_recovery e change cwnd ssthresh moment)
+plain_recovery change cwnd ssthresh moment e = record { stream = refl; irs = refl; waits = λ x. x }

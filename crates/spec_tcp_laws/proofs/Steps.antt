@@ -223,8 +223,8 @@ kept_host_step : (h : Header) → is_half h.version ≡ false → (s : ℕ) (w :
     → Good w.hosts → Permitted (tcp h) s w (At host d) → Keeps h s w host d
 kept_host_step h whole s w host (Does x) g may up = let k = pick w.hosts host in
     kept_host w.hosts host (host_step_after (tcp h) host s (suc w.count) (pick w.hosts (other host)).wire k (Does x)) g up
-    (moves_at_ports w.hosts host k.body x.lport x.rport (λ e. after_recovery e x.cwnd x.ssthresh s)
-    (ends w.hosts host g) (plain_recovery x.cwnd x.ssthresh s))
+    (moves_at_ports w.hosts host k.body x.lport x.rport (λ e. after_recovery e x.change x.cwnd x.ssthresh s)
+    (ends w.hosts host g) (plain_recovery x.change x.cwnd x.ssthresh s))
     (λ c later t. record { made = t.made; wire = t.wire; inbox = t.inbox })
 kept_host_step h whole s w host (Expires line x) g may up = let k = pick w.hosts host in
     kept_host w.hosts host (host_step_after (tcp h) host s (suc w.count) (pick w.hosts (other host)).wire k (Expires line x)) g up
@@ -308,7 +308,7 @@ grown_host_step : (h : Header) (s : ℕ) (w : World tcp_shape) (host : Host) (d 
     (host_step_after (tcp h) host s (suc w.count) (pick w.hosts (other host)).wire (pick w.hosts host) d).body.endpoints
 grown_host_step h s w host (Does x) g may =
     grown_at_ports (Carries h w (At host (Does x))) host (pick w.hosts host).body x.lport x.rport
-    (λ e. after_recovery e x.cwnd x.ssthresh s) (g host) (plain_recovery x.cwnd x.ssthresh s)
+    (λ e. after_recovery e x.change x.cwnd x.ssthresh s) (g host) (plain_recovery x.change x.cwnd x.ssthresh s)
 grown_host_step h s w host (Expires line x) g may =
     grown_at_ports (Carries h w (At host (Expires line x))) host (pick w.hosts host).body x.lport x.rport
     (λ e. after_expiry e x.expired s) (g host) (plain_expiry x.expired s)

@@ -392,8 +392,8 @@ gone_host_step : (h : Header) (s : ℕ) (w : World tcp_shape) (host : Host) (d :
     → Gone w (At host d) host (pick w.hosts host).body.endpoints
     (host_step_after (tcp h) host s (suc w.count) (pick w.hosts (other host)).wire (pick w.hosts host) d).body.endpoints
 gone_host_step h s w host (Does x) =
-    gone_at_ports w (At host (Does x)) host (pick w.hosts host).body x.lport x.rport (λ e. after_recovery e x.cwnd x.ssthresh s)
-    (λ i e at. stays w (At host (Does x)) (name host i) e (after_recovery e x.cwnd x.ssthresh s) refl (level e) refl)
+    gone_at_ports w (At host (Does x)) host (pick w.hosts host).body x.lport x.rport (λ e. after_recovery e x.change x.cwnd x.ssthresh s)
+    (λ i e at. stays w (At host (Does x)) (name host i) e (after_recovery e x.change x.cwnd x.ssthresh s) refl (level e) refl)
 gone_host_step h s w host (Expires line x) =
     gone_at_ports w (At host (Expires line x)) host (pick w.hosts host).body x.lport x.rport
     (λ e. after_expiry e x.expired s)

@@ -5,6 +5,8 @@ use Rattle.std.specs.Prelude.{if◌then◌else◌, ◌==◌, ◌||◌, nat_lt, n
 use Rattle.std.specs.Option.{option_map_or}
 use Rattle.std.proofs.lemmas.Option.{none-some, same_Some}
 use Rattle.case_forms.specs.Versions.{says_sender}
+use Rattle.case_forms.specs.declared.timer.RecoveryChange.{RecoveryChange}
+use Rattle.case_forms.specs.declared.timer.RecoveryChange.TheVariants as recovery_change
 use Rattle.case_forms.specs.declared.trace.Header.{Header}
 use Rattle.case_forms.specs.declared.calls.Host.{Host}
 use Rattle.case_forms.specs.declared.calls.Host.TheVariants as hosts
@@ -58,7 +60,7 @@ use Rattle.case_forms.specs.declared.timer.RtoChoice.{RtoChoice}
 use Rattle.case_forms.specs.declared.timer.Recovery.{Recovery}
 use Rattle.spec_tcp.specs.Heard.{as_read}
 use Rattle.spec_tcp.specs.Timeouts.{greatest_values, expiry_rules, after_expiry}
-use Rattle.spec_tcp.specs.Recovery.{is_bad_recovery, is_undone, recovery_rules, after_recovery}
+use Rattle.spec_tcp.specs.Recovery.{after_recovery, control_changed, is_bad_change, is_bad_recovery, recovery_rules}
 use Rattle.spec_tcp.specs.Machine.{Calls, Expiring, rules_at, tcp, tcp_shape, aim}
 use Rattle.spec_tcp_laws.specs.Consequences.{find}
 use Rattle.spec_tcp_laws.specs.Bounds.{greatest_taking, TakesThere, TimesOut, Recovers, Leaves, WindowsFollow}
@@ -205,12 +207,19 @@ follows_taking h s w host line how m waits may = go (taker (pick w.hosts host).b
         let one : e ≡ x = same_Some e x (sym (taker_there b m i e is) ∙ there) in
         taken m (line, how, refl, waits, is ∙ ap (λ (y : Endpoint). AtEndpoint i y) one) (chosen h x how (as_read h.version e m) s).2)
 
+recovery_moves : (w : World tcp_shape) (s : ℕ) (host : Host) (x : Recovery) (change : RecoveryChange) → x.change ≡ change → (i : ℕ) (e : Endpoint)
+    → place_of (pick w.hosts host).body x.lport x.rport ≡ Some i
+    → WindowsMove w (At host (Does x)) (name host i) e (after_recovery e change x.cwnd x.ssthresh s)
+recovery_moves w s host x recovery_change.Begins is i e at =
+    recovered (x, refl, is, at) (same_profile e.control (recovery_signal e x.ssthresh) (at_moment e s) x.cwnd x.ssthresh)
+recovery_moves w s host x recovery_change.IsUndone is i e at = stayed refl
+
 follows_host_step : (h : Header) (s : ℕ) (w : World tcp_shape) (host : Host) (d : HostStep tcp_shape) → Permitted (tcp h) s w (At host d)
     → Follows (profile_of h) w (At host d) host (pick w.hosts host).body.endpoints
     (host_step_after (tcp h) host s (suc w.count) (pick w.hosts (other host)).wire (pick w.hosts host) d).body.endpoints
 follows_host_step h s w host (Does x) may = let b = (pick w.hosts host).body in
-    follows_at_ports (profile_of h) w (At host (Does x)) host b x.lport x.rport (λ e. after_recovery e x.cwnd x.ssthresh s)
-    (λ i e at there. recovered (x, refl, at) (same_profile e.control (recovery_signal e x.ssthresh) (at_moment e s) x.cwnd x.ssthresh))
+    follows_at_ports (profile_of h) w (At host (Does x)) host b x.lport x.rport (λ e. after_recovery e x.change x.cwnd x.ssthresh s)
+    (λ i e at there. recovery_moves w s host x x.change refl i e at)
 follows_host_step h s w host (Expires line x) may = let b = (pick w.hosts host).body in
     follows_at_ports (profile_of h) w (At host (Expires line x)) host b x.lport x.rport (λ e. after_expiry e x.expired s)
     (λ i e at there. expiry_moves w s host line x i e at)
@@ -422,25 +431,32 @@ taking_leaves h s w host line how m i e may waits is =
         ∙ (ap (λ (o : Option Emission). slice_get (on o b (λ y. after_taking h b how y s (taker b y))).endpoints i) waits ∙ here)
 
 recovery_leaves : (h : Header) (s : ℕ) (w : World tcp_shape) (host : Host) (x : Recovery) (i : ℕ) (e : Endpoint) → Permitted (tcp h) s w (At host (Does x))
+    → x.change ≡ recovery_change.Begins
     → place_of (pick w.hosts host).body x.lport x.rport ≡ Some i → slice_get (pick w.hosts host).body.endpoints i ≡ Some e
     → Leaves h s w (At host (Does x)) (name host i)
     (λ c. (c.values.ssthresh ≤ (greatest e.control (recovery_signal e c.values.ssthresh) (at_moment e s)).1)
     × (c.values.cwnd ≤ (greatest e.control (recovery_signal e c.values.ssthresh) (at_moment e s)).0))
-recovery_leaves h s w host x i e may at there =
-    (after_recovery e x.cwnd x.ssthresh s, at_ports_there w host x.lport x.rport i e (λ e. after_recovery e x.cwnd x.ssthresh s) at there, bound)
+recovery_leaves h s w host x i e may begins at there =
+    (after_recovery e x.change x.cwnd x.ssthresh s, at_ports_there w host x.lport x.rport i e (λ e. after_recovery e x.change x.cwnd x.ssthresh s) at there,
+    subst (λ (change : RecoveryChange). Within (control_changed change e x.cwnd x.ssthresh s)) (sym begins) bound)
   where
     now : Signal
     now = recovery_signal e x.ssthresh
+
+    Within : Control → Type 0
+    Within c = (c.values.ssthresh ≤ (greatest e.control (recovery_signal e c.values.ssthresh) (at_moment e s)).1)
+        × (c.values.cwnd ≤ (greatest e.control (recovery_signal e c.values.ssthresh) (at_moment e s)).0)
 
     bound : (x.ssthresh ≤ (greatest e.control now (at_moment e s)).1) × (x.cwnd ≤ (greatest e.control now (at_moment e s)).0)
     bound =
         let mine = rules_there (pick w.hosts host).body x.lport x.rport i e (λ e. recovery_rules h.version e x.change x.cwnd x.ssthresh s) at there may in
         let t = none_all (recovery_rules h.version e x.change x.cwnd x.ssthresh s) mine in
-        let fine = neither (is_undone x.change) (is_bad_recovery h.version e x.cwnd x.ssthresh s) t.1.1.0 in
+        let fine : is_bad_recovery h.version e x.cwnd x.ssthresh s ≡ false =
+        sym (ap (λ (change : RecoveryChange). is_bad_change h.version e change x.cwnd x.ssthresh s) begins) ∙ t.1.1.0 in
         let last =
         neither (not (says_sender h.version || may_recover e.control) || e.stream.snd_una == snd_max e
         || nat_lt ((greatest e.control now (at_moment e s)).1) x.ssthresh)
-        (nat_lt ((greatest e.control now (at_moment e s)).0) x.cwnd) fine.1 in
+        (nat_lt ((greatest e.control now (at_moment e s)).0) x.cwnd) fine in
         let threshold =
         neither (not (says_sender h.version || may_recover e.control) || e.stream.snd_una == snd_max e)
         (nat_lt ((greatest e.control now (at_moment e s)).1) x.ssthresh) last.0 in (
@@ -486,7 +502,7 @@ follow h s w step may = record {
       ≤ (greatest e.control (recovery_signal e c.values.ssthresh) (at_moment e s)).1)
       × (c.values.cwnd ≤ (greatest e.control (recovery_signal e c.values.ssthresh) (at_moment e s)).0)))
       (sym a.1)
-      (recovery_leaves h s w me.host a.0 me.number e (subst (λ (y : Step tcp_shape). Permitted (tcp h) s w y) a.1 may) a.2 there);
+      (recovery_leaves h s w me.host a.0 me.number e (subst (λ (y : Step tcp_shape). Permitted (tcp h) s w y) a.1 may) a.2 a.3 there);
   stays = λ me e there no_taking no_timeout no_recovery. others_stay h s w step me e ((all me.host).onward me.number e there) no_taking no_timeout no_recovery;
   profile = λ me e there. let x = (all me.host).onward me.number e there in (x.0, x.1, profile_stays w step me e x.0 x.2);
   begins = λ me f none at. from me f none ((all me.host).back me.number f at);

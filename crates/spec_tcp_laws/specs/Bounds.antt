@@ -1,6 +1,7 @@
 -- What follows for windows from each step of the model: how far new data reaches, and how cwnd and ssthresh change (RFC
 -- 9293, 3.8.6; RFC 5681, 3.1 and 3.2).
 use Rattle.std.specs.Prelude.{◌≡◌, ◌<◌, ◌≤◌, ℕ, ◌+◌, length, None, Some}
+use Rattle.case_forms.specs.declared.timer.RecoveryChange.TheVariants.{Begins}
 use Rattle.case_forms.specs.declared.trace.Header.{Header}
 use Rattle.case_forms.specs.declared.calls.Host.{Host}
 use Rattle.window_rules.specs.declared.control.Control.{Control}
@@ -62,7 +63,7 @@ TimesOut w step me =
 -- the step begins fast recovery at the endpoint with these ports
 abbrev pub Recovers : World tcp_shape → Step tcp_shape → EndpointId → Type 0
 Recovers w step me =
-    (x : Recovery) × (step ≡ At me.host (Does x))
+    (x : Recovery) × (step ≡ At me.host (Does x)) × (x.change ≡ Begins)
     × (place_of (pick w.hosts me.host).body x.lport x.rport ≡ Some me.number)
 
 -- after the step the endpoint exists, and its congestion control has this property
@@ -85,7 +86,7 @@ pub record WindowsFollow (h : Header) (moment : ℕ) (w : World tcp_shape) (step
   pub recovers : (me : EndpointId) (e : Endpoint) → find w.hosts me ≡ Some e → Recovers w step me
       → Leaves h moment w step me (λ c. (c.values.ssthresh ≤ (greatest_recovering moment e c.values.ssthresh).1)
       × (c.values.cwnd ≤ (greatest_recovering moment e c.values.ssthresh).0))
-  -- every other step leaves congestion control unchanged
+  -- every other step leaves congestion control unchanged; so does one that undoes a recovery
   pub stays : (me : EndpointId) (e : Endpoint) → find w.hosts me ≡ Some e
       → ((m : Emission) → TakesThere w step me e m → ⊥) → (TimesOut w step me → ⊥) → (Recovers w step me → ⊥)
       → Leaves h moment w step me (λ c. c ≡ e.control)

@@ -7,7 +7,7 @@ use Rattle.case_forms.specs.declared.steps.TakeChoice.{TakeChoice}
 use Rattle.case_forms.specs.declared.trace.Header.{Header}
 use Rattle.case_forms.specs.declared.version.Judged.{Judged}
 use Rattle.case_forms.specs.declared.version.Version.{Version}
-use Rattle.case_forms.specs.declared.timer.RecoveryChange.{RecoveryChange}
+use Rattle.case_forms.specs.declared.timer.RecoveryChange.TheVariants.{Begins}
 use Rattle.verdict.specs.declared.rule.Rule.{Rule}
 use Rattle.verdict.specs.declared.rule.Rule.TheVariants as rules
 use Rattle.verdict.specs.Rules.{first_broken}
@@ -67,5 +67,5 @@ pub record BeginsRecovery (v : Version) (e : Endpoint) : Type 0 where
       → (3 ≤ e.control.values.dup) × (e.control.values.fast ≡ false)
 
 abbrev pub RecoveryIsDue : Type 0
-RecoveryIsDue = (v : Version) (e : Endpoint) (change : RecoveryChange) (cwnd ssthresh moment : ℕ)
-    → first_broken (recovery_rules v e change cwnd ssthresh moment) ≡ None → BeginsRecovery v e
+RecoveryIsDue = (v : Version) (e : Endpoint) (cwnd ssthresh moment : ℕ)
+    → first_broken (recovery_rules v e Begins cwnd ssthresh moment) ≡ None → BeginsRecovery v e

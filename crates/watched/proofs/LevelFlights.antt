@@ -6,6 +6,8 @@ use Rattle.std.specs.Option.{option_map, option_map_or}
 use Rattle.indexmap.specs.IndexMap.{insert_entry}
 use Rattle.case_forms.specs.Versions.{says_sender}
 use Rattle.case_forms.specs.TakenLines.{timer_of}
+use Rattle.case_forms.specs.declared.timer.RecoveryChange.{RecoveryChange}
+use Rattle.case_forms.specs.declared.timer.RecoveryChange.TheVariants.{Begins, IsUndone}
 use Rattle.case_forms.specs.declared.calls.Host.{Host}
 use Rattle.case_forms.specs.declared.steps.SegmentPlan.{SegmentPlan}
 use Rattle.case_forms.specs.declared.timer.Timer.{Timer}
@@ -73,7 +75,8 @@ recovery_same (Expires Persist) b after r = refl
 recovery_same (Expires Msl2) b after r = refl
 recovery_same (Expires Giveup) b after r = refl
 recovery_same (Expires Pto) b after r = refl
-recovery_same Recovers b after r = refl
+recovery_same (Recovers Begins) b after r = refl
+recovery_same (Recovers IsUndone) b after r = refl
 
 event_same : (event : Event) (b : ℕ) (after : View) (oldest : Bool) → marked_by_event event (view_with b after) oldest ≡ marked_by_event event after oldest
 event_same Opens b after oldest = refl
@@ -87,7 +90,7 @@ event_same (Expires Persist) b after oldest = refl
 event_same (Expires Msl2) b after oldest = refl
 event_same (Expires Giveup) b after oldest = refl
 event_same (Expires Pto) b after oldest = refl
-event_same Recovers b after oldest = refl
+event_same (Recovers change) b after oldest = refl
 
 marked_same : (change : SynChange) (event : Event) (b : ℕ) (after : View) (oldest : Bool)
     → marked_by change event (view_with b after) oldest ≡ marked_by change event after oldest
@@ -105,7 +108,8 @@ taken_same (Drops asks unlimited) a before = refl
 taken_same (Builds m) a before = refl
 taken_same (Sends s) a before = refl
 taken_same (Expires timer) a before = refl
-taken_same Recovers a before = refl
+taken_same (Recovers Begins) a before = refl
+taken_same (Recovers IsUndone) a before = refl
 
 oldest_same : (clock : ℕ) (event : Event) (a b : ℕ) (before after : View) (sides : Sides) (r : Recovery) (f : Flight)
     → marks_oldest clock event (view_with a before) (view_with b after) sides r f ≡ marks_oldest clock event before after sides r f
@@ -116,7 +120,8 @@ oldest_same clock (Drops asks unlimited) a b before after sides r f = refl
 oldest_same clock (Builds m) a b before after sides r f = refl
 oldest_same clock (Sends s) a b before after sides r f = refl
 oldest_same clock (Expires timer) a b before after sides r f = refl
-oldest_same clock Recovers a b before after sides r f = refl
+oldest_same clock (Recovers Begins) a b before after sides r f = refl
+oldest_same clock (Recovers IsUndone) a b before after sides r f = refl
 
 board_same : (moment clock : ℕ) (recovers : Bool) (number : ℕ) (event : Event) (a b : ℕ) (before after : View) (r : Reports) (x : Scoreboard)
     → board_after moment clock recovers number event (view_with a before) (view_with b after) r x
@@ -132,7 +137,8 @@ board_same moment clock recovers number (Expires Persist) a b before after r x =
 board_same moment clock recovers number (Expires Msl2) a b before after r x = refl
 board_same moment clock recovers number (Expires Giveup) a b before after r x = refl
 board_same moment clock recovers number (Expires Pto) a b before after r x = refl
-board_same moment clock recovers number Recovers a b before after r x = refl
+board_same moment clock recovers number (Recovers Begins) a b before after r x = refl
+board_same moment clock recovers number (Recovers IsUndone) a b before after r x = refl
 
 rescued_same : (clock : ℕ) (event : Event) (a : ℕ) (before : View) (f : Flight)
     → rescued_after clock event (view_with a before) f ≡ rescued_after clock event before f
@@ -147,7 +153,8 @@ rescued_same clock (Expires Persist) a before f = refl
 rescued_same clock (Expires Msl2) a before f = refl
 rescued_same clock (Expires Giveup) a before f = refl
 rescued_same clock (Expires Pto) a before f = refl
-rescued_same clock Recovers a before f = refl
+rescued_same clock (Recovers Begins) a before f = refl
+rescued_same clock (Recovers IsUndone) a before f = refl
 
 probe_same : (b : ℕ) (after : View) (p : Probe) → probe_before (view_with b after) p ≡ probe_before after p
 probe_same b after probes.Nothing = refl
@@ -168,7 +175,8 @@ probing_same moment (Expires Persist) a b before after p = ap (λ (x : Probe). r
 probing_same moment (Expires Msl2) a b before after p = ap (λ (x : Probe). record { probe = x; quiet = p.quiet }) (probe_same b after p.probe)
 probing_same moment (Expires Giveup) a b before after p = ap (λ (x : Probe). record { probe = x; quiet = p.quiet }) (probe_same b after p.probe)
 probing_same moment (Expires Pto) a b before after p = refl
-probing_same moment Recovers a b before after p = refl
+probing_same moment (Recovers Begins) a b before after p = refl
+probing_same moment (Recovers IsUndone) a b before after p = ap (λ (x : Probe). record { probe = x; quiet = p.quiet }) (probe_same b after p.probe)
 
 marks_same : (change : SynChange) (event : Event) (a b : ℕ) (before after : View) (r : Reports) (oldest : Bool) (marks : List ℕ)
     → marks_after change event (view_with a before) (view_with b after) r oldest marks ≡ marks_after change event before after r oldest marks
@@ -252,7 +260,8 @@ broken_same repeats clock (Expires Persist) a v f = refl
 broken_same repeats clock (Expires Msl2) a v f = refl
 broken_same repeats clock (Expires Giveup) a v f = refl
 broken_same repeats clock (Expires Pto) a v f = refl
-broken_same repeats clock Recovers a v f = refl
+broken_same repeats clock (Recovers Begins) a v f = refl
+broken_same repeats clock (Recovers IsUndone) a v f = refl
 
 pub flown_same : (j : Judged) (h : Header) (moment : ℕ) (w : World tcp_shape) (edge : ℕ) (s : Observation) (fs : Flights)
     → flown (header_by j h) moment (world_judged j h w) (observed_with edge s) fs ≡ flown h moment w s fs
@@ -290,9 +299,10 @@ broken_less : (less more : Bool) (clock : ℕ) (event : Event) (v : View) (f : F
 broken_less false more clock (Builds m) v f le none = refl
 broken_less true false clock (Builds m) v f le none = let is : false ≡ true = le refl in absurd cc
 broken_less true true clock (Builds m) v f le none = none
-broken_less false more clock Recovers v f le none = refl
-broken_less true false clock Recovers v f le none = let is : false ≡ true = le refl in absurd cc
-broken_less true true clock Recovers v f le none = none
+broken_less false more clock (Recovers Begins) v f le none = refl
+broken_less true false clock (Recovers Begins) v f le none = let is : false ≡ true = le refl in absurd cc
+broken_less true true clock (Recovers Begins) v f le none = none
+broken_less less more clock (Recovers IsUndone) v f le none = none
 broken_less less more clock (Expires Rto) v f le none = refl
 broken_less less more clock (Expires Persist) v f le none = refl
 broken_less less more clock (Expires Msl2) v f le none = refl
@@ -508,9 +518,14 @@ builds_levels v is repeats clock m seen f = by (repeats && goes_again seen m && 
     by true = is
     by false = tt
 
-begins_levels : (v : Version) (repeats : Bool) (clock : ℕ) (seen : View) (f : Flight) → IsLevels v (broken_at repeats clock Recovers seen f)
-begins_levels v repeats clock seen f = by (repeats && not (may_begin clock seen f))
+recovers_levels : (v : Version) (repeats : Bool) (clock : ℕ) (change : RecoveryChange) (seen : View) (f : Flight)
+    → IsLevels v (broken_at repeats clock (Recovers change) seen f)
+recovers_levels v repeats clock change seen f = at change
   where
+    at : (change : RecoveryChange) → IsLevels v (broken_at repeats clock (Recovers change) seen f)
+    at Begins = by (repeats && not (may_begin clock seen f))
+    at IsUndone = by (not f.undoing.is_spurious)
+
     by : (b : Bool) → IsLevels v (if b then Some rules.Recovery else None)
     by true = tt
     by false = tt
@@ -617,8 +632,9 @@ model_alike j h moment k (At host d) le is same = at d same
         (λ repeats is. builds_levels h.version is repeats clock m)
     at (Does x) =
         let place = place_of b x.lport x.rport in
-        by_levels (Does x) Recovers place (less_refused (Does x) Recovers place (judges_repeats j) refl (λ v f. refl)) refl
-        (λ repeats is. begins_levels h.version repeats clock)
+        let event = Recovers x.change in
+        by_levels (Does x) event place (less_refused (Does x) event place (judges_repeats j) refl (λ v f. refl)) refl
+        (λ repeats is. recovers_levels h.version repeats clock x.change)
     at (TimerLine line x) =
         let timer = timer_of x.expired in
         let place = place_of b x.lport x.rport in

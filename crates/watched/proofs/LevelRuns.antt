@@ -73,7 +73,7 @@ owed_same (Expires Persist) a b before after moment closed counts o = refl
 owed_same (Expires Msl2) a b before after moment closed counts o = refl
 owed_same (Expires Giveup) a b before after moment closed counts o = refl
 owed_same (Expires Pto) a b before after moment closed counts o = refl
-owed_same Recovers a b before after moment closed counts o = refl
+owed_same (Recovers change) a b before after moment closed counts o = refl
 
 mere_same : (a b : ℕ) (after : View) (t : TouchedEndpoint) → builds_mere_ack (view_with b after) (touched_with a t) ≡ builds_mere_ack after t
 mere_same a b after t = by t.event
@@ -89,7 +89,7 @@ mere_same a b after t = by t.event
     by (Drops asks unlimited) = refl
     by (Sends s) = refl
     by (Expires timer) = refl
-    by Recovers = refl
+    by (Recovers change) = refl
 
 built_same : (a b : ℕ) (after : View) (moment : ℕ) (o : Option TouchedEndpoint) (it : BuiltChange) (built : List (ℕ × Option Built))
     → built_after (view_with b after) moment (option_map (touched_with a) o) it built ≡ built_after after moment o it built
@@ -108,7 +108,7 @@ strict_same s (Drops asks unlimited) a b before after moment acknowledged sent o
 strict_same s (Builds m) a b before after moment acknowledged sent o = refl
 strict_same x (Sends s) a b before after moment acknowledged sent o = refl
 strict_same s (Expires timer) a b before after moment acknowledged sent o = refl
-strict_same s Recovers a b before after moment acknowledged sent o = refl
+strict_same s (Recovers change) a b before after moment acknowledged sent o = refl
 
 spared_same : (event : Event) (a : ℕ) (before : View) → is_spared event (view_with a before) ≡ is_spared event before
 spared_same (Builds m) a before = refl
@@ -118,7 +118,7 @@ spared_same (Processes length rst) a before = refl
 spared_same (Drops asks unlimited) a before = refl
 spared_same (Sends s) a before = refl
 spared_same (Expires timer) a before = refl
-spared_same Recovers a before = refl
+spared_same (Recovers change) a before = refl
 
 costs_same : (event : Event) (a b : ℕ) (before after : View) (moment : ℕ) (kept_alive : Option ℕ)
     → needs_credit event (view_with a before) (view_with b after) moment kept_alive ≡ needs_credit event before after moment kept_alive
@@ -129,7 +129,7 @@ costs_same (Processes length rst) a b before after moment kept_alive = refl
 costs_same (Drops asks unlimited) a b before after moment kept_alive = refl
 costs_same (Sends s) a b before after moment kept_alive = refl
 costs_same (Expires timer) a b before after moment kept_alive = refl
-costs_same Recovers a b before after moment kept_alive = refl
+costs_same (Recovers change) a b before after moment kept_alive = refl
 
 alive_same : (event : Event) (a b : ℕ) (before after : View) → is_keep_alive event (view_with a before) (view_with b after) ≡ is_keep_alive event before after
 alive_same (Builds m) a b before after = refl
@@ -139,7 +139,7 @@ alive_same (Processes length rst) a b before after = refl
 alive_same (Drops asks unlimited) a b before after = refl
 alive_same (Sends s) a b before after = refl
 alive_same (Expires timer) a b before after = refl
-alive_same Recovers a b before after = refl
+alive_same (Recovers change) a b before after = refl
 
 unsent_same : (a b : ℕ) (after : View) (moment : ℕ) (d : Duties) (o : Option TouchedEndpoint) (it : BuiltChange)
     → unsent_after (view_with b after) moment d (option_map (touched_with a) o) it ≡ unsent_after after moment d o it

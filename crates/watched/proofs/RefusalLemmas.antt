@@ -4,6 +4,8 @@ use Rattle.std.proofs.Common.{map}
 use Rattle.std.specs.Prelude.{nat_eq, nat_le, nat_lt, not, ◌&&◌, ◌||◌, if◌then◌else◌, slice_get}
 use Rattle.std.specs.Option.{option_map, option_map_or}
 use Rattle.std.proofs.lemmas.Bool.Decides.{nat_tests}
+use Rattle.case_forms.specs.declared.timer.RecoveryChange.{RecoveryChange}
+use Rattle.case_forms.specs.declared.timer.RecoveryChange.TheVariants.{Begins, IsUndone}
 use Rattle.case_forms.specs.declared.calls.Host.{Host}
 use Rattle.case_forms.specs.declared.steps.SegmentPlan.{SegmentPlan}
 use Rattle.case_forms.specs.TakenLines.{timer_of}
@@ -211,9 +213,16 @@ making_among h clock m e v f = by (judges_repeats h.congestion && goes_again v m
     by false = tt
 
 recovering_among : (h : Header) (clock moment : ℕ) (x : Recovery) (e : Endpoint) (v : View) (f : Flight)
-    → IsAmong (broken_at (judges_repeats h.congestion) clock events.Recovers v f) (recovery_rules h.version e x.change x.cwnd x.ssthresh moment)
-recovering_among h clock moment x e v f = by (judges_repeats h.congestion && not (may_begin clock v f))
+    → IsAmong (broken_at (judges_repeats h.congestion) clock (events.Recovers x.change) v f)
+    (recovery_rules h.version e x.change x.cwnd x.ssthresh moment)
+recovering_among h clock moment x e v f = at x.change
   where
+    at : (change : RecoveryChange)
+        → IsAmong (broken_at (judges_repeats h.congestion) clock (events.Recovers change) v f)
+        (recovery_rules h.version e x.change x.cwnd x.ssthresh moment)
+    at Begins = by (judges_repeats h.congestion && not (may_begin clock v f))
+    at IsUndone = by (not f.undoing.is_spurious)
+
     by : (b : Bool) → IsAmong (if b then Some rules.Recovery else None) (recovery_rules h.version e x.change x.cwnd x.ssthresh moment)
     by true = refl
     by false = tt
@@ -249,7 +258,7 @@ refused_among h moment k (At host d) = at d
     at (Makes m) =
         among_there h clock k host b (events.Builds m) (λ e. making_rules h.version e m) (making_among h clock m) (place_of b m.lport m.rport)
     at (Does x) =
-        among_there h clock k host b events.Recovers (λ e. recovery_rules h.version e x.change x.cwnd x.ssthresh moment)
+        among_there h clock k host b (events.Recovers x.change) (λ e. recovery_rules h.version e x.change x.cwnd x.ssthresh moment)
         (recovering_among h clock moment x) (place_of b x.lport x.rport)
     at (Expires line x) =
         among_there h clock k host b (events.Expires (timer_of x.expired)) (λ e. expiry_rules h moment e x.expired)

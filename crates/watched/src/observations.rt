@@ -377,7 +377,7 @@ pub fn observe_hidden(world: &World, moment: u64, step: &Hidden<'_>) -> Observat
                 lport: recovery.lport,
                 rport: recovery.rport,
             };
-            observe_at_ports(world, host, Event::Recovers, ports)
+            observe_at_ports(world, host, Event::Recovers(recovery.change), ports)
         }
     }
 }

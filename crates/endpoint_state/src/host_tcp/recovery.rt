@@ -1,4 +1,4 @@
-//! Fast recovery begins (RFC 5681, 3.2).
+//! Fast recovery begins (RFC 5681, 3.2), or is undone (RFC 4015, 3.2).
 
 ghost use Rattle.std.specs.Prelude.{◌≡◌, Some, IfOk, OnOk, OnErr};
 ghost use Rattle.std.specs.List.{All};
@@ -15,7 +15,7 @@ use endpoint::admits_recovery;
 use verdict::Rule;
 
 impl HostTcp {
-    /// The place of the endpoint where fast recovery may begin. The error is the first broken rule.
+    /// The place of the endpoint where fast recovery may begin, or be undone. The error is the first broken rule.
     pub(crate) fn admitted_recovery(
         &self,
         version: Version,
@@ -37,7 +37,7 @@ impl HostTcp {
         Ok(place)
     }
 
-    /// Fast recovery begins. The error is the first broken rule; nothing is changed then.
+    /// Fast recovery begins, or is undone. The error is the first broken rule; nothing is changed then.
     #[tactic(auto, using(crate::proofs::BodyLemmas::body_same))]
     pub(crate) fn recover(
         &mut self,
@@ -51,8 +51,13 @@ impl HostTcp {
         ensures err { OnErr result (self.new ≡ self.old) }
     {
         let place = self.admitted_recovery(version, recovery, moment)?;
-        self.endpoints
-            .recover(place, recovery.cwnd, recovery.ssthresh, moment);
+        self.endpoints.recover(
+            place,
+            recovery.change,
+            recovery.cwnd,
+            recovery.ssthresh,
+            moment,
+        );
         Ok(())
     }
 }
