@@ -2,13 +2,14 @@
 use Rattle.std.specs.Prelude.{◌≡◌, ◌≢◌, ◌↔◌, ℕ, zero, suc, ◌+◌, ◌-◌, ◌/◌, ◌%◌, ◌==◌, Bool}
 use Rattle.std.specs.Prelude.{false, ◌&&◌, ◌||◌, nat_le, nat_lt, if◌then◌else◌}
 use Rattle.std.specs.List.{list_any}
-use Rattle.std.specs.Option.{option_map_or}
+use Rattle.std.specs.Option.{option_map_or, option_or}
 use Rattle.std.specs.Prelude.{List, [], ◌∷◌, ◌++◌, length, take, drop, Option, Some, None, Result, Ok, Err}
 use Rattle.byteorder.specs.Endian.{big_from}
 use Rattle.segment.specs.declared.fault.SegFault.{SegFault}
 use Rattle.segment.specs.declared.fault.SegFault.TheVariants.{Short, Offset, OptionLength, TooLong, OutOfMemory}
 use Rattle.segment.specs.declared.fields.Segment.{Segment}
 use Rattle.segment.specs.declared.options.SackBlock.{SackBlock}
+use Rattle.segment.specs.declared.options.TimestampPair.{TimestampPair}
 use Rattle.segment.specs.Options.{Item, padding, option}
 use Rattle.segment.specs.Layout.{IsSegment, IsFault, max_len, header_len, options_of, fields_of}
 
@@ -73,6 +74,23 @@ blocks_among (item ∷ items) = item_blocks item ++ blocks_among items
 -- the blocks that the options of a segment's bytes carry
 abbrev pub sack_blocks : List ℕ → List SackBlock
 sack_blocks bytes = option_map_or blocks_among (items_of (options_of bytes)) []
+
+-- kind 8 with 8 bytes of content carries the sender's clock, and the clock that it echoes (RFC 7323, 3.2)
+abbrev pub item_timestamps : Item → Option TimestampPair
+item_timestamps padding = None
+item_timestamps (option kind content) =
+    if kind == 8 && length content == 8
+    then Some (record { value = record { 0 = big_from 0 4 content }; echo = record { 0 = big_from 4 4 content } })
+    else None
+
+-- those of the last item that carries some
+abbrev pub last_timestamps : List Item → Option TimestampPair
+last_timestamps [] = None
+last_timestamps (item ∷ items) = option_or (last_timestamps items) (item_timestamps item)
+
+-- the timestamps that the options of a segment's bytes carry
+abbrev pub timestamps : List ℕ → Option TimestampPair
+timestamps bytes = option_map_or last_timestamps (items_of (options_of bytes)) None
 
 -- the segment with these items, or a fault of the items or of the length
 abbrev pub with_items : List ℕ → Option (List Item) → Result Segment SegFault

@@ -10,6 +10,7 @@
 //! - `decode`: the segment that bytes encode; `SegFault`: why they encode none
 //! - `permits_sack`: whether a segment's options permit selective acknowledgments
 //! - `sack_block`: the blocks of a selective acknowledgment that a segment carries; `SackBlock`: one of them
+//! - `timestamps`: the timestamps that a segment carries; `TimestampPair`: their type
 //! - `encode`: the bytes of a segment; `EncFault`: why it can't be encoded
 //! - `OutOfMemory`: memory ran out
 //!
@@ -21,7 +22,7 @@
 //! Private modules:
 //!
 //! - `fields`, `flag`, `bytes`, `fault`: the types above
-//! - `options`: the items of a list of options, and the MSS, the shift and the blocks that they carry
+//! - `options`: the items of a list of options, and the MSS, the shift, the blocks and the timestamps that they carry
 //! - `decoder`: `decode`; `encoder`: `encode`
 #![tactic(auto)]
 
@@ -39,7 +40,7 @@ pub use encoder::encode;
 pub use fault::{EncFault, SegFault};
 pub use fields::Segment;
 pub use flag::Flag;
-pub use options::{SackBlock, permits_sack, sack_block};
+pub use options::{SackBlock, TimestampPair, permits_sack, sack_block, timestamps};
 
 /// Memory ran out. Nothing was changed.
 pub type OutOfMemory = std::alloc::AllocError;
