@@ -5,8 +5,8 @@ use Rattle.case_forms.specs.declared.steps.SegmentPlan.{SegmentPlan}
 use Rattle.streams.specs.Ranges.{meets}
 use Rattle.spec_duties.specs.declared.events.Event.TheVariants.{Builds}
 use Rattle.spec_duties.specs.declared.views.View.{View}
-use Rattle.spec_flights.specs.Flights.{Flight, broken_at, goes_again}
-use Rattle.spec_flights.specs.Marks.{old_part}
+use Rattle.spec_flights.specs.Flights.{Flight, broken_at}
+use Rattle.spec_flights.specs.Marks.{goes_again, old_part}
 
 -- once fast recovery began, and until a timeout, a segment that is sent again has no position that the peer reported
 abbrev pub WhatIsToldStays : Type 0

@@ -3,11 +3,12 @@
 ghost use Rattle.std.specs.Prelude.{◌≡◌, ◌<◌, ◌^◌, OnOk};
 ghost use Rattle.std.specs.FinSet.{from_list};
 ghost use Rattle.segment.specs.Reading.{sack_blocks};
+ghost use Rattle.spec_flights.specs.Scoreboard.{number_built};
 ghost use Rattle.spec_flights.specs.Flights.{broken_at, finds_lost, flight_after};
-ghost use Rattle.spec_flights.specs.Flights.{goes_again, marks_oldest, may_be_probed, may_begin, number_built};
+ghost use Rattle.spec_flights.specs.Flights.{marks_oldest, may_be_probed, may_begin};
 ghost use Rattle.spec_flights.specs.Flights.{probe_broken, rescued_after, unflown, uses_rescue};
 ghost use Rattle.spec_flights.specs.Held.{is_untrue};
-ghost use Rattle.spec_flights.specs.Marks.{marks_after};
+ghost use Rattle.spec_flights.specs.Marks.{goes_again, marks_after};
 
 use crate::delivered::{read_reports, remove_reports};
 use crate::held::{is_untrue, note_held};

@@ -29,7 +29,9 @@ use Rattle.spec_duties.specs.declared.observations.SynChange.{SynChange}
 use Rattle.spec_duties.specs.declared.observations.SynChange.TheVariants as syn_change
 use Rattle.spec_duties.specs.declared.observations.TouchedEndpoint.{TouchedEndpoint}
 use Rattle.spec_duties.specs.declared.views.View.{View}
-use Rattle.spec_flights.specs.Flights.{Flight, board_after, broken_at, flight_at, goes_again, number_built}
+use Rattle.spec_flights.specs.Marks.{goes_again}
+use Rattle.spec_flights.specs.Scoreboard.{number_built}
+use Rattle.spec_flights.specs.Flights.{Flight, board_after, broken_at, flight_at}
 use Rattle.spec_flights.specs.Delivered.{read_reports}
 use Rattle.spec_flights.specs.Recovering.{is_recovering, recovery_after}
 use Rattle.spec_flights.specs.Sides.{are_selective, sides_after}

@@ -14,6 +14,7 @@ pub mod Owed
 pub mod Sampling
 pub mod Blocks
 pub mod Kept
+pub mod Arrivals
 pub mod Strict
 pub mod Dropped
 pub mod Answering

@@ -38,8 +38,8 @@ mod views;
 pub use answering::{Awaited, CallChange, OpenCall, Ready, SocketChange, Waitable, Waiting};
 pub use events::{Event, Sending};
 pub use observations::{
-    Arrival, Block, Blocks, BuiltChange, Droppable, Dropping, InboxChange, Kept, Observation, Queueing,
-    Sampling, SynChange, TouchedEndpoint,
+    Arrival, Block, Blocks, BuiltChange, Droppable, Dropping, InboxChange, Kept, Observation,
+    Queueing, Sampling, SynChange, TouchedEndpoint,
 };
 pub use owed::{Lates, Owed, Probing};
 pub use strict::{StrictOwed, Unsent};

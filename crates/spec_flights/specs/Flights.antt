@@ -35,14 +35,14 @@ use Rattle.spec_duties.specs.declared.views.View.{View}
 use Rattle.spec_flights.specs.Delivered.{Reports, heard, read_reports}
 use Rattle.spec_flights.specs.Held.{held_after, is_untrue}
 use Rattle.spec_flights.specs.Late.{has_below, resent_below, settled}
-use Rattle.spec_flights.specs.Marks.{marks_after, old_part, opens_probed}
+use Rattle.spec_flights.specs.Marks.{goes_again, marks_after, old_part, opens_probed}
 use Rattle.spec_flights.specs.Probing.{Probing, is_due, is_early_probe, is_none, not_probing, probing_after}
 use Rattle.spec_flights.specs.Recovering.{Recovery, is_recovering, is_repairing, none_begun, recovery_after}
-use Rattle.spec_flights.specs.Scoreboard.{Scoreboard, nothing_built, stretch_built, with_built, with_given_up}
+use Rattle.spec_flights.specs.Scoreboard.{Scoreboard, nothing_built, number_built, stretch_built, with_built, with_given_up}
 use Rattle.spec_flights.specs.Scoreboard.{with_nothing_given_up}
 use Rattle.spec_flights.specs.Sides.{Sides, are_selective, neither, sides_after}
 use Rattle.spec_flights.specs.Stretches.{Stretch}
-use Rattle.spec_flights.specs.Undoing.{Undoing, goes_again, needed, number_built, undoing_after}
+use Rattle.spec_flights.specs.Undoing.{Undoing, needed, undoing_after}
 
 -- what is kept of an endpoint: what the two SYNs permit, from which loss it recovers, which positions are marked, in
 -- order, what is known of each outstanding one, whether it made use of a rescue since the recovery began, how far a

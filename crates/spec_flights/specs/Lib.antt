@@ -7,4 +7,5 @@ pub mod Late
 pub mod Delivered
 pub mod Marks
 pub mod Held
+pub mod Undoing
 pub mod Flights

@@ -1,5 +1,5 @@
 -- What may be sent again is marked, once for each reason; sending it takes the mark.
-use Rattle.std.specs.Prelude.{ℕ, ◌+◌, nat_lt, min, Bool, true, ◌&&◌, if◌then◌else◌, List, is_some}
+use Rattle.std.specs.Prelude.{ℕ, ◌+◌, nat_lt, min, Bool, true, not, ◌&&◌, if◌then◌else◌, List, is_some}
 use Rattle.std.specs.FinSet.{difference, from_list, items, union}
 use Rattle.case_forms.specs.declared.steps.SegmentPlan.{SegmentPlan}
 use Rattle.case_forms.specs.declared.timer.RecoveryChange.TheVariants.{IsUndone}
@@ -50,6 +50,10 @@ marked_by change event after oldest = marked_by_event event after oldest
 -- the positions of a segment that were sent before
 abbrev pub old_part : View → SegmentPlan → Stretch
 old_part v m = record { from = m.pos; upto = min (m.pos + making_length m) v.snd_max }
+
+-- it holds positions that were sent before, and isn't a FIN without bytes
+abbrev pub goes_again : View → SegmentPlan → Bool
+goes_again v m = nat_lt 0 (making_length m) && nat_lt m.pos v.snd_max && not (is_fin_alone m v)
 
 abbrev pub taken_by : Event → View → Stretch
 taken_by (Builds m) before = if is_fin_alone m before then no_positions else old_part before m

@@ -10,6 +10,8 @@ use Rattle.streams.specs.Ranges.{span}
 use Rattle.streams.specs.declared.outstanding.Outstanding.{Outstanding}
 use Rattle.spec_tcp.specs.Makes.Payload.{making_length}
 use Rattle.spec_duties.specs.Strict.{is_fin_alone}
+use Rattle.spec_duties.specs.declared.observations.BuiltChange.{BuiltChange}
+use Rattle.spec_duties.specs.declared.observations.BuiltChange.TheVariants as built_change
 use Rattle.spec_duties.specs.declared.views.View.{View}
 use Rattle.spec_flights.specs.Stretches.{Stretch, no_positions}
 pub use Rattle.spec_flights.specs.declared.making.Latest.{Latest}
@@ -52,6 +54,15 @@ abbrev pub left_without : List ℕ → (from upto : ℕ) → List ℕ
 left_without positions from upto = items (difference (from_list positions) (span from upto))
 
 -- ---- building a segment
+
+-- the number under which a step builds a segment, or under which what it sends was built
+abbrev pub number_built : BuiltChange → ℕ
+number_built (built_change.Builds number) = number
+number_built change = 0
+
+abbrev pub number_sent : BuiltChange → ℕ
+number_sent (built_change.Sends number) = number
+number_sent change = 0
 
 -- a FIN without bytes that was sent before says nothing new of its position (RFC 9293, 3.10.4)
 abbrev pub stretch_built : SegmentPlan → (before after : View) → Stretch

@@ -10,19 +10,15 @@ use Rattle.segment.specs.declared.options.Timestamps.{Timestamps}
 use Rattle.case_forms.specs.declared.steps.SegmentPlan.{SegmentPlan}
 use Rattle.case_forms.specs.declared.timer.Timer.TheVariants.{Rto}
 use Rattle.streams.specs.declared.outstanding.Outstanding.{Outstanding}
-use Rattle.spec_tcp.specs.Makes.Payload.{making_length}
 use Rattle.spec_duties.specs.Events.{acknowledges_more}
-use Rattle.spec_duties.specs.Strict.{is_fin_alone}
 use Rattle.spec_duties.specs.declared.events.Event.{Event}
 use Rattle.spec_duties.specs.declared.events.Event.TheVariants.{Builds, Expires, Processes, Recovers, Sends}
-use Rattle.spec_duties.specs.declared.observations.Arrival.{Arrival}
-use Rattle.spec_duties.specs.declared.observations.BuiltChange.{BuiltChange}
-use Rattle.spec_duties.specs.declared.observations.BuiltChange.TheVariants as built_change
 use Rattle.spec_duties.specs.declared.observations.Observation.{Observation}
 use Rattle.spec_duties.specs.declared.views.View.{View}
 use Rattle.spec_flights.specs.Delivered.{Reports, within}
+use Rattle.spec_flights.specs.Marks.{goes_again}
 use Rattle.spec_flights.specs.Recovering.{Recovery, is_recovering}
-use Rattle.spec_flights.specs.Scoreboard.{Scoreboard, in_flight}
+use Rattle.spec_flights.specs.Scoreboard.{Scoreboard, in_flight, number_built, number_sent}
 use Rattle.spec_flights.specs.Sides.{Sides, are_selective}
 pub use Rattle.spec_flights.specs.declared.undoing.Again.{Again}
 pub use Rattle.spec_flights.specs.declared.undoing.Began.{Began}
@@ -33,19 +29,6 @@ abbrev pub needed : Undoing
 needed = record { again = None; timeout = None; is_spurious = false }
 
 -- ---- what is sent again first
-
--- the number under which a step builds a segment, or under which what it sends was built
-abbrev pub number_built : BuiltChange → ℕ
-number_built (built_change.Builds number) = number
-number_built change = 0
-
-abbrev pub number_sent : BuiltChange → ℕ
-number_sent (built_change.Sends number) = number
-number_sent change = 0
-
--- it holds positions that were sent before, and isn't a FIN without bytes
-abbrev pub goes_again : View → SegmentPlan → Bool
-goes_again v m = nat_lt 0 (making_length m) && nat_lt m.pos v.snd_max && not (is_fin_alone m v)
 
 abbrev pub again_built : (number : ℕ) → SegmentPlan → (first : Bool) → Option Again → Option Again
 again_built number m first again =

@@ -436,9 +436,11 @@ recovery_leaves : (h : Header) (s : ℕ) (w : World tcp_shape) (host : Host) (x 
     → Leaves h s w (At host (Does x)) (name host i)
     (λ c. (c.values.ssthresh ≤ (greatest e.control (recovery_signal e c.values.ssthresh) (at_moment e s)).1)
     × (c.values.cwnd ≤ (greatest e.control (recovery_signal e c.values.ssthresh) (at_moment e s)).0))
-recovery_leaves h s w host x i e may begins at there =
-    (after_recovery e x.change x.cwnd x.ssthresh s, at_ports_there w host x.lport x.rport i e (λ e. after_recovery e x.change x.cwnd x.ssthresh s) at there,
-    subst (λ (change : RecoveryChange). Within (control_changed change e x.cwnd x.ssthresh s)) (sym begins) bound)
+recovery_leaves h s w host x i e may begins at there = (
+  after_recovery e x.change x.cwnd x.ssthresh s,
+  at_ports_there w host x.lport x.rport i e (λ e. after_recovery e x.change x.cwnd x.ssthresh s) at there,
+  subst (λ (change : RecoveryChange). Within (control_changed change e x.cwnd x.ssthresh s)) (sym begins) bound,
+)
   where
     now : Signal
     now = recovery_signal e x.ssthresh

@@ -42,16 +42,16 @@ use Rattle.spec_duties.specs.declared.observations.TouchedEndpoint.{TouchedEndpo
 use Rattle.spec_duties.specs.Views.{view_of}
 use Rattle.spec_duties.specs.declared.views.View.{View}
 use Rattle.spec_flights.specs.Delivered.{read_reports, without_reports}
-use Rattle.spec_flights.specs.Flights.{Flight, Flights, board_after, broken_at, flight_after, flight_at, flight_by, flights_touched, may_begin, goes_again}
-use Rattle.spec_flights.specs.Flights.{marks_oldest, may_be_probed, may_go_again, number_built, refusal, rescued_after}
+use Rattle.spec_flights.specs.Flights.{Flight, Flights, board_after, broken_at, flight_after, flight_at, flight_by, flights_touched, may_begin}
+use Rattle.spec_flights.specs.Flights.{marks_oldest, may_be_probed, may_go_again, refusal, rescued_after}
 use Rattle.spec_flights.specs.Held.{held_after}
-use Rattle.spec_flights.specs.Marks.{marked_by, marked_by_event, marks_after, old_part, taken_by}
+use Rattle.spec_flights.specs.Marks.{goes_again, marked_by, marked_by_event, marks_after, old_part, taken_by}
 use Rattle.spec_flights.specs.Probing.{is_early_probe, probe_before, probing_after}
 use Rattle.spec_flights.specs.declared.probing.Probe.{Probe}
 use Rattle.spec_flights.specs.declared.probing.Probe.TheVariants as probes
 use Rattle.spec_flights.specs.declared.probing.Probing.{Probing}
 use Rattle.spec_flights.specs.Recovering.{is_recovering, recovery_after}
-use Rattle.spec_flights.specs.Scoreboard.{Scoreboard}
+use Rattle.spec_flights.specs.Scoreboard.{number_built, Scoreboard}
 use Rattle.spec_flights.specs.Sides.{sides_after}
 use Rattle.spec_flights.specs.declared.recovery.Recovery.{Recovery}
 use Rattle.spec_flights.specs.declared.reports.Reports.{Reports}

@@ -36,7 +36,8 @@ use Rattle.spec_duties.specs.Resent.{judges_repeats}
 use Rattle.spec_duties.specs.declared.observations.TouchedEndpoint.{TouchedEndpoint}
 use Rattle.spec_duties.specs.Views.{view_of}
 use Rattle.spec_duties.specs.declared.views.View.{View}
-use Rattle.spec_flights.specs.Flights.{Flight, broken_at, flight_at, goes_again, judges, may_be_probed, may_begin, may_go_again}
+use Rattle.spec_flights.specs.Marks.{goes_again}
+use Rattle.spec_flights.specs.Flights.{Flight, broken_at, flight_at, judges, may_be_probed, may_begin, may_go_again}
 use Rattle.spec_flights.specs.Probing.{is_early_probe}
 use Rattle.spec_cases.specs.Cases as cases
 use Rattle.spec_cases.specs.Cases.{Known, case_rules, model_rules, refused_at, refused_by, watch_rules, with_broken}

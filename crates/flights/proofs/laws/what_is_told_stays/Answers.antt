@@ -10,12 +10,12 @@ use Rattle.streams.specs.Ranges.{covers, meets, positions}
 use Rattle.case_forms.specs.declared.steps.SegmentPlan.{SegmentPlan}
 use Rattle.spec_tcp.specs.Makes.Payload.{making_length}
 use Rattle.spec_duties.specs.declared.views.View.{View}
-use Rattle.spec_flights.specs.Flights.{Flight, are_free, free_below, goes_again, is_free, is_probe, is_rescue, may_go_again, sends_nothing_new}
+use Rattle.spec_flights.specs.Flights.{Flight, are_free, free_below, is_free, is_probe, is_rescue, may_go_again, sends_nothing_new}
 use Rattle.spec_flights.specs.Late.{has_below, resent_below}
 use Rattle.spec_flights.specs.Probing.{is_due}
 use Rattle.spec_flights.specs.Recovering.{is_repairing}
 use Rattle.spec_flights.specs.Sides.{are_selective}
-use Rattle.spec_flights.specs.Marks.{old_part}
+use Rattle.spec_flights.specs.Marks.{goes_again, old_part}
 use Rattle.spec_flights.specs.declared.stretch.Stretch.{Stretch}
 use Rattle.flights.proofs.laws.what_is_told_stays.Goals as goal
 
