@@ -1,7 +1,7 @@
 -- What reaches an endpoint, as that reads it; and the timestamps of a segment (RFC 7323, 3.2).
 use Rattle.std.specs.Prelude.{ℕ, if◌then◌else◌, List, Option, None, Some}
 use Rattle.segment.specs.Reading.{timestamps}
-use Rattle.segment.specs.declared.options.Timestamps.{Timestamps}
+use Rattle.segment.specs.declared.options.TimestampPair.{TimestampPair}
 use Rattle.case_forms.specs.Versions.{says_sender}
 use Rattle.case_forms.specs.declared.version.Version.{Version}
 use Rattle.spec_tcp.specs.Arrives.{Taker, Nobody, AtListener, AtEndpoint}
@@ -12,7 +12,7 @@ use Rattle.spec_duties.specs.Blocks.{reads_blocks}
 pub use Rattle.spec_duties.specs.declared.observations.Arrival.{Arrival}
 
 -- version 6 asks for the timestamps of what is sent, processed or dropped
-abbrev pub stamps_read : Version → (bytes : List ℕ) → Option Timestamps
+abbrev pub stamps_read : Version → (bytes : List ℕ) → Option TimestampPair
 stamps_read v bytes = if says_sender v then timestamps bytes else None
 
 abbrev pub arrival_of : Emission → Arrival

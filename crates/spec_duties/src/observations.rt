@@ -4,7 +4,7 @@ use crate::answering::{CallChange, SocketChange};
 use crate::events::Event;
 use crate::views::View;
 use case_forms::Host;
-use segment::Timestamps;
+use segment::TimestampPair;
 
 /// What a step does to an inbox.
 #[derive(Clone, Copy)]
@@ -151,7 +151,7 @@ pub struct Observation {
     pub kept: Kept,
     /// The timestamps of the segment that is sent, processed or dropped (RFC 7323, 3.2). `None`: it has none, or versions
     /// 1 to 5 don't ask.
-    pub stamps: Option<Timestamps>,
+    pub stamps: Option<TimestampPair>,
     /// The segment that is processed or dropped. `None`: it is a reset, or reaches no endpoint that knows the peer's SYN.
     /// Versions 1 to 5 don't ask.
     pub arrival: Option<Arrival>,

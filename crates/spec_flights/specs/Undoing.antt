@@ -6,7 +6,7 @@ use Rattle.std.specs.Prelude.{if◌then◌else◌, List, Option, None, Some, is_
 use Rattle.std.specs.List.{list_any}
 use Rattle.std.specs.Option.{option_map, option_map_or}
 use Rattle.seqno.specs.declared.word.Word.{Word}
-use Rattle.segment.specs.declared.options.Timestamps.{Timestamps}
+use Rattle.segment.specs.declared.options.TimestampPair.{TimestampPair}
 use Rattle.case_forms.specs.declared.steps.SegmentPlan.{SegmentPlan}
 use Rattle.case_forms.specs.declared.timer.Timer.TheVariants.{Rto}
 use Rattle.streams.specs.declared.outstanding.Outstanding.{Outstanding}
@@ -35,7 +35,7 @@ again_built number m first again =
     if first then Some (record { number = number; pos = m.pos; clock = None }) else again
 
 -- its line shows its clock
-abbrev pub again_sent : (number : ℕ) → Option Timestamps → Again → Again
+abbrev pub again_sent : (number : ℕ) → Option TimestampPair → Again → Again
 again_sent number stamps a =
     if nat_eq a.number number then record a { clock = option_map (λ t. t.value) stamps } else a
 
@@ -46,11 +46,11 @@ abbrev pub is_older : Word → Word → Bool
 is_older a b = nat_le (2 ^ 31) ((a.0 + 2 ^ 32 - b.0) % 2 ^ 32)
 
 -- the echoed clock is older than that of what was sent again
-abbrev pub echoes_older : Option Timestamps → Again → Bool
+abbrev pub echoes_older : Option TimestampPair → Again → Bool
 echoes_older stamps a = option_map_or (λ t. option_map_or (is_older t.echo) a.clock false) stamps false
 
 -- what was sent again first is acknowledged, by something that answers what was sent before (RFC 3522, 3.2, step 5)
-abbrev pub answers_earlier : (before after : View) → Option Timestamps → Again → Bool
+abbrev pub answers_earlier : (before after : View) → Option TimestampPair → Again → Bool
 answers_earlier before after stamps a =
     acknowledges_more before after && nat_lt a.pos after.snd_una && echoes_older stamps a
 
