@@ -26,7 +26,7 @@ use Rattle.spec_duties.specs.Watching as watching
 use Rattle.spec_duties.specs.Watching.{Duties, duty_rules, duties_after}
 use Rattle.spec_duties.specs.End as end
 use Rattle.spec_flights.specs.Flights as flights
-use Rattle.spec_flights.specs.Flights.{Flights, flights_after, refusal, sends_untrue}
+use Rattle.spec_flights.specs.Flights.{Flights, excused, flights_after, refusal, sends_untrue}
 
 -- the model's world, what is kept of data in flight, and what its hosts owe
 pub record Known : Type 0 where
@@ -86,9 +86,13 @@ abbrev pub untrue_at : Header → Known → Step tcp_shape → Bool
 untrue_at h k (network.At host d) = says_sender h.version && untrue_by k host d
 untrue_at h k step = false
 
+-- what duties see of a step
+abbrev pub shown : Header → (moment : ℕ) → Known → Step tcp_shape → Observation
+shown h moment k step = excused h k.flights (observe h moment k.model step)
+
 -- the rules of duties at a step
 abbrev pub watch_rules : Header → (moment : ℕ) → Known → Step tcp_shape → List (Rule × Bool)
-watch_rules h moment k step = judged_rules h moment k.duties (untrue_at h k step) (observe h moment k.model step)
+watch_rules h moment k step = judged_rules h moment k.duties (untrue_at h k step) (shown h moment k step)
 
 -- the rule counts as broken
 abbrev pub with_broken : Rule → Rule × Bool → Rule × Bool
@@ -131,8 +135,7 @@ abbrev pub known_after : Header → (moment : ℕ) → Known → Step tcp_shape 
 known_after h moment k step = record {
   model = steps.after (tcp h) moment k.model step;
   flights = flown h moment (steps.after (tcp h) moment k.model step) (observe h moment k.model step) k.flights;
-  duties =
-      noted_by h moment (steps.after (tcp h) moment k.model step) (observe h moment k.model step) k.duties;
+  duties = noted_by h moment (steps.after (tcp h) moment k.model step) (shown h moment k step) k.duties;
 }
 
 abbrev pub known_after_all : Header → Known → List (Stamped tcp_shape) → Known

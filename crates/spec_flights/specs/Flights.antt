@@ -32,6 +32,7 @@ use Rattle.spec_duties.specs.declared.events.Event.TheVariants.{Builds, Expires,
 use Rattle.spec_duties.specs.declared.observations.Observation.{Observation}
 use Rattle.spec_duties.specs.declared.observations.TouchedEndpoint.{TouchedEndpoint}
 use Rattle.spec_duties.specs.declared.views.View.{View}
+use Rattle.spec_flights.specs.Clocks.{Clocks, clocks_after, excused_at, no_clocks}
 use Rattle.spec_flights.specs.Delivered.{Reports, heard, read_reports}
 use Rattle.spec_flights.specs.Held.{held_after, is_untrue}
 use Rattle.spec_flights.specs.Late.{has_below, resent_below, settled}
@@ -46,7 +47,7 @@ use Rattle.spec_flights.specs.Undoing.{Undoing, needed, undoing_after}
 
 -- what is kept of an endpoint: what the two SYNs permit, from which loss it recovers, which positions are marked, in
 -- order, what is known of each outstanding one, whether it made use of a rescue since the recovery began, how far a
--- probe for a loss is, and whether the recovery was needed; and which positions of its peer's stream it holds beyond what is next, in order
+-- probe for a loss is, whether the recovery was needed, and what is known of timestamps; and which positions of its peer's stream it holds beyond what is next, in order
 pub record Flight : Type 0 where
   pub sides : Sides
   pub recovery : Recovery
@@ -55,6 +56,7 @@ pub record Flight : Type 0 where
   pub rescued : Bool
   pub probing : Probing
   pub undoing : Undoing
+  pub clocks : Clocks
   pub held : List ℕ
 
 abbrev pub unflown : Flight
@@ -66,6 +68,7 @@ unflown = record {
   rescued = false;
   probing = not_probing;
   undoing = needed;
+  clocks = no_clocks;
   held = [];
 }
 
@@ -180,6 +183,11 @@ sends_untrue fs host place e bytes =
     is_untrue (flight_at fs host place).sides.peers (from_list (flight_at fs host place).held) (rcv_nxt e) e.irs
     (sack_blocks bytes)
 
+-- what duties see of a step: what an endpoint drops may be excused by timestamps; nothing is in versions 1 to 5
+abbrev pub excused : Header → Flights → Observation → Observation
+excused h fs s =
+    if says_sender h.version then on s.touched s (λ t. excused_at (flight_at fs t.host t.place).clocks s) else s
+
 -- ---- what is kept after a step
 
 -- in fast recovery, an acknowledgment marks the next segment, unless blocks show what is lost
@@ -244,6 +252,7 @@ flight_by moment clock s t after sides r f = record {
   probing = probing_after moment t.event t.before after f.probing;
   undoing =
       undoing_after s t.event t.before after sides f.recovery (read_reports sides s.blocks) f.board f.undoing;
+  clocks = clocks_after s t.event after f.clocks;
   held = held_after s.kept after.rcv_nxt f.held;
 }
 

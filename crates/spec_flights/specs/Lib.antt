@@ -7,5 +7,6 @@ pub mod Late
 pub mod Delivered
 pub mod Marks
 pub mod Held
+pub mod Clocks
 pub mod Undoing
 pub mod Flights

@@ -15,6 +15,7 @@ use Rattle.spec_duties.specs.declared.events.Event.{Event}
 use Rattle.spec_duties.specs.declared.events.Event.TheVariants.{Builds, Expires, Processes, Recovers, Sends}
 use Rattle.spec_duties.specs.declared.observations.Observation.{Observation}
 use Rattle.spec_duties.specs.declared.views.View.{View}
+use Rattle.spec_flights.specs.Clocks.{is_older}
 use Rattle.spec_flights.specs.Delivered.{Reports, within}
 use Rattle.spec_flights.specs.Marks.{goes_again}
 use Rattle.spec_flights.specs.Recovering.{Recovery, is_recovering}
@@ -40,10 +41,6 @@ again_sent number stamps a =
     if nat_eq a.number number then record a { clock = option_map (λ t. t.value) stamps } else a
 
 -- ---- what shows that it wasn't needed
-
--- an earlier value of a clock that goes round (RFC 7323, 5.2)
-abbrev pub is_older : Word → Word → Bool
-is_older a b = nat_le (2 ^ 31) ((a.0 + 2 ^ 32 - b.0) % 2 ^ 32)
 
 -- the echoed clock is older than that of what was sent again
 abbrev pub echoes_older : Option TimestampPair → Again → Bool

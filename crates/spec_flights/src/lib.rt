@@ -7,7 +7,7 @@
 //!
 //! - `sides`: what the two SYNs permitted; `recovery`: from which loss an endpoint recovers; `stretch`: some positions;
 //!   `making`: segments that were built; `reports`: what blocks report; `probing`: probes for a loss;
-//!   `undoing`: whether a recovery was needed
+//!   `undoing`: whether a recovery was needed; `clocks`: the timestamps of its peer
 //!
 //! The definitions:
 //!
@@ -19,10 +19,12 @@
 //! - `specs/Late`: what is lost, since something that was sent later was delivered
 //! - `specs/Delivered`: what an acknowledgment delivers, by its number and by its blocks
 //! - `specs/Marks`: which positions may be sent again, and for which reasons
+//! - `specs/Clocks`: which segments are too old by their timestamps, or lack them, so that they may be dropped
 //! - `specs/Held`: what an endpoint holds of its peer's stream beyond what is next in order, and may report
 //! - `specs/Flights`: what is kept of each endpoint, what it refuses, and what is kept after a step
 #![tactic(auto)]
 
+mod clocks;
 mod making;
 mod probing;
 mod recovery;
@@ -31,6 +33,7 @@ mod sides;
 mod stretch;
 mod undoing;
 
+pub use clocks::Clocks;
 pub use making::{Latest, Making};
 pub use probing::{Probe, Probing};
 pub use recovery::Recovery;

@@ -5,6 +5,7 @@ use Rattle.std.specs.Prelude.{if◌then◌else◌, ◌==◌, ◌||◌, nat_lt, n
 use Rattle.std.specs.Option.{option_map_or}
 use Rattle.std.proofs.lemmas.Option.{none-some, same_Some}
 use Rattle.case_forms.specs.Versions.{says_sender}
+use Rattle.window_rules.specs.declared.control.Control.{Control}
 use Rattle.case_forms.specs.declared.timer.RecoveryChange.{RecoveryChange}
 use Rattle.case_forms.specs.declared.timer.RecoveryChange.TheVariants as recovery_change
 use Rattle.case_forms.specs.declared.trace.Header.{Header}
