@@ -30,8 +30,9 @@ use Rattle.spec_duties.specs.declared.strict.Unsent.{Unsent}
 use Rattle.spec_duties.specs.declared.tables.Built.{Built}
 use Rattle.spec_duties.specs.declared.tables.Listening.{Listening}
 use Rattle.spec_duties.specs.declared.views.View.{View}
-use Rattle.spec_flights.specs.Clocks.{Clocks, dropping_excused, event_excused, excused_at, excused_by, is_outdated, is_unstamped}
+use Rattle.spec_flights.specs.Clocks.{dropping_excused, event_excused, excused_at, excused_by, is_outdated, is_unstamped}
 use Rattle.spec_flights.specs.Flights.{Flights, excused, flight_at}
+use Rattle.spec_flights.specs.declared.clocks.Clocks.{Clocks}
 
 -- ---- events
 

@@ -1,6 +1,6 @@
 -- What duties see of a step, where timestamps excuse that a segment is dropped.
 use Rattle.std.proofs.Common.{◌≡◌, ℕ, Bool, true, false, Option, None, Some, refl, ap, sym, ◌∙◌}
-use Rattle.std.specs.Prelude.{if◌then◌else◌, is_some, nat_eq}
+use Rattle.std.specs.Prelude.{◌&&◌, if◌then◌else◌, is_some, nat_eq, not}
 use Rattle.std.specs.Map.{lookup}
 use Rattle.std.specs.Option.{option_map}
 use Rattle.case_forms.specs.Versions.{says_sender}
@@ -32,8 +32,9 @@ use Rattle.spec_duties.specs.declared.observations.Dropping.{Dropping}
 use Rattle.spec_duties.specs.declared.observations.Observation.{Observation}
 use Rattle.spec_duties.specs.declared.observations.Queueing.TheVariants as queueing
 use Rattle.spec_duties.specs.declared.observations.TouchedEndpoint.{TouchedEndpoint}
-use Rattle.spec_flights.specs.Clocks.{Clocks, excused_at, excused_by, is_outdated, is_unstamped, touched_excused}
+use Rattle.spec_flights.specs.Clocks.{excused_at, excused_by, is_outdated, is_unstamped, touched_excused}
 use Rattle.spec_flights.specs.Flights.{Flights, excused, flight_at}
+use Rattle.spec_flights.specs.declared.clocks.Clocks.{Clocks}
 use Rattle.spec_cases.specs.Cases.{Known, shown}
 use Rattle.watched.specs.Levels.{EndsBelow, observed_with, touched_with}
 
