@@ -1,5 +1,5 @@
 -- What duties see of a step, where timestamps excuse that a segment is dropped.
-use Rattle.std.proofs.Common.{◌≡◌, ℕ, Bool, true, false, Option, None, Some, refl, ap, sym, ◌∙◌}
+use Rattle.std.proofs.Common.{◌≡◌, ℕ, Bool, true, false, Option, None, Some, refl, ap}
 use Rattle.std.specs.Prelude.{◌&&◌, if◌then◌else◌, is_some, nat_eq, not}
 use Rattle.std.specs.Map.{lookup}
 use Rattle.std.specs.Option.{option_map}
@@ -12,7 +12,6 @@ use Rattle.case_forms.specs.declared.calls.Host.{Host}
 use Rattle.case_forms.specs.declared.taken_line.TakenLine.{TakenLine}
 use Rattle.case_forms.specs.declared.taken_line.TakenLine.TheVariants as taken
 use Rattle.case_forms.specs.declared.trace.Header.{Header}
-use Rattle.case_forms.specs.declared.trace.Wire.{Wire}
 use Rattle.spec_network.specs.HostRules.{aim_of}
 use Rattle.spec_network.specs.Hosts as network
 use Rattle.spec_network.specs.Hosts.{Answered, Called, HostState, HostStep, Idle, Step, Turn, World, turn_of}
@@ -25,7 +24,7 @@ use Rattle.spec_tcp.specs.declared.endpoint.Emission.{Emission}
 use Rattle.spec_tcp.specs.declared.endpoint.SocketTarget.{SocketTarget}
 use Rattle.spec_tcp.specs.declared.endpoint.SocketTarget.TheVariants.{EndpointAt, ListenerAt}
 use Rattle.spec_duties.specs.Observations.{at_sender, is_done, observe, observe_accept, observe_call, observe_close, observe_effect, observe_host_step}
-use Rattle.spec_duties.specs.Observations.{observe_opened, observe_other, observe_pending, observe_taking, syn_sent, unseen, view_in}
+use Rattle.spec_duties.specs.Observations.{observe_opened, observe_other, observe_taking, syn_sent, unseen, view_in}
 use Rattle.spec_duties.specs.Arrivals.{stamps_read}
 use Rattle.spec_duties.specs.declared.observations.BuiltChange.TheVariants as built_change
 use Rattle.spec_duties.specs.declared.observations.Dropping.{Dropping}
