@@ -7,6 +7,7 @@ use crate::other_windows::say_fitting;
 use crate::probes::{is_known_of_probe, is_tail};
 use crate::scene::{Building, Expiring, Object, Processing, Scene};
 use crate::sendable::sendable_bytes;
+use crate::undoing::is_known_of_undoing;
 use crate::{resets, wire};
 use case_forms::{Call, Extras, Judged, OutOfMemory, RecoveryChange, Timer, Version, Wire};
 use endpoint::{acknowledges, greatest_values};
@@ -64,7 +65,7 @@ fn is_known(scene: &Scene, known: Known) -> bool {
         Object::Listening(..) => matches!(known, Known::Processing | Known::NothingNew),
         Object::Recovering(endpoint, it) => match it.change {
             RecoveryChange::Begins => is_known_of_recovery(scene, endpoint, is_none, known),
-            RecoveryChange::IsUndone => known == Known::IsUndone,
+            RecoveryChange::IsUndone => is_known_of_undoing(scene, endpoint, known),
         },
         Object::Other if scene.builds() => is_known_of_reset(scene, known),
         Object::Other => match known {

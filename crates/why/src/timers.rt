@@ -1,10 +1,10 @@
 //! The rules of expiries and of fast recovery.
 
 use crate::losses::say_loss;
-use crate::probes;
 use crate::scene::{Expiring, Scene};
 use crate::sendable::say_sendable;
 use crate::states::say_way_out;
+use crate::{probes, undoing};
 use case_forms::{Extras, OutOfMemory, Recovery, RecoveryChange, Timer};
 use endpoint::{greatest_recovery, greatest_values};
 use endpoint_state::Endpoint;
@@ -146,9 +146,7 @@ pub(crate) fn recovery(
     it: Recovery,
 ) -> Result<(), OutOfMemory> {
     if it.change == RecoveryChange::IsUndone {
-        return out.push_str(
-            "no endpoint of the model detects a spurious recovery (RFC 3522, 5682)\n",
-        );
+        return undoing::say_needed(out, scene, endpoint);
     }
     let profile = endpoint.control.profile;
     if !profile.counts_duplicates() {
