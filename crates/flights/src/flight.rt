@@ -3,25 +3,26 @@
 ghost use Rattle.std.specs.Prelude.{◌≡◌, ◌<◌, ◌^◌, OnOk};
 ghost use Rattle.std.specs.FinSet.{from_list};
 ghost use Rattle.segment.specs.Reading.{sack_blocks};
-ghost use Rattle.spec_flights.specs.Scoreboard.{number_built};
 ghost use Rattle.spec_flights.specs.Flights.{broken_at, finds_lost, flight_after};
 ghost use Rattle.spec_flights.specs.Flights.{marks_oldest, may_be_probed, may_begin};
 ghost use Rattle.spec_flights.specs.Flights.{probe_broken, rescued_after, unflown, uses_rescue};
 ghost use Rattle.spec_flights.specs.Held.{is_untrue};
 ghost use Rattle.spec_flights.specs.Marks.{goes_again, marks_after};
 
+use crate::clocks::{clocks_after, no_clocks};
 use crate::delivered::{read_reports, remove_reports};
 use crate::held::{is_untrue, note_held};
 use crate::marks::{is_fin_alone, making_length, marked_by, old_part, taken_by};
 use crate::probing::{is_early_probe, is_none, not_probing, probing_after};
 use crate::recovering::{is_recovering, is_repairing, none_begun, recovery_after};
-use crate::scoreboard::Scoreboard;
+use crate::scoreboard::{Scoreboard, number_built};
 use crate::sides::{are_selective, neither, sides_after};
 use crate::steps::Now;
-use case_forms::{OutOfMemory, SegmentPlan, Timer};
+use crate::undoing::needed;
+use case_forms::{OutOfMemory, RecoveryChange, SegmentPlan, Timer};
 use seqno::Word;
-use spec_duties::{BuiltChange, Event, Observation, SynChange, TouchedEndpoint, View};
-use spec_flights::{Probing, Recovery, Reports, Sides};
+use spec_duties::{Event, Observation, SynChange, TouchedEndpoint, View};
+use spec_flights::{Clocks, Probing, Recovery, Reports, Sides, Undoing};
 use std::alloc::Global;
 use std::marker::Model;
 use streams::Ranges;
@@ -29,7 +30,8 @@ use verdict::Rule;
 
 /// What is kept of an endpoint: what the two SYNs permit, from which loss it recovers, which positions are marked, what
 /// is known of each outstanding one, whether it made use of a rescue since the recovery began, how far a probe for a
-/// loss is, and which positions of its peer's stream it holds beyond what is next in order.
+/// loss is, whether the recovery was needed, and what is known of timestamps; and which positions of its peer's stream
+/// it holds beyond what is next in order.
 #[derive(Drop)]
 pub(crate) struct Flight {
     pub(crate) sides: Sides,
@@ -38,6 +40,8 @@ pub(crate) struct Flight {
     pub(crate) board: Scoreboard,
     pub(crate) rescued: bool,
     pub(crate) probing: Probing,
+    pub(crate) undoing: Undoing,
+    pub(crate) clocks: Clocks,
     pub(crate) held: Ranges,
 }
 
@@ -46,15 +50,6 @@ pub(crate) fn goes_again(v: &View, plan: &SegmentPlan) -> bool
     ensures { result ≡ goes_again v.now plan.now }
 {
     0 < making_length(plan) && plan.pos < v.snd_max && !is_fin_alone(plan, v)
-}
-
-fn number_built(change: BuiltChange) -> u32
-    ensures { result ≡ number_built change }
-{
-    match change {
-        BuiltChange::Builds(number) => number,
-        BuiltChange::Nothing | BuiltChange::Sends(_) => 0,
-    }
 }
 
 impl Model for Flight {
@@ -70,6 +65,8 @@ impl Model for Flight {
       board = a.board;
       rescued = a.rescued;
       probing = a.probing;
+      undoing = a.undoing;
+      clocks = a.clocks;
       held = items a.held;
     } };
 }
@@ -86,6 +83,8 @@ impl Flight {
             board: Scoreboard::new(alloc),
             rescued: false,
             probing: not_probing(),
+            undoing: needed(),
+            clocks: no_clocks(),
             held: Ranges::new(alloc),
         }
     }
@@ -148,7 +147,12 @@ impl Flight {
                 if repeats && goes_again(v, plan) && !self.may_go_again(clock, v, plan) => {
                 Some(Rule::OldData)
             }
-            Event::Recovers(_) if repeats && !self.may_begin(clock, v) => Some(Rule::Recovery),
+            Event::Recovers(RecoveryChange::Begins) if repeats && !self.may_begin(clock, v) => {
+                Some(Rule::Recovery)
+            }
+            Event::Recovers(RecoveryChange::IsUndone) if !self.undoing.is_spurious => {
+                Some(Rule::Recovery)
+            }
             Event::Expires(Timer::Pto) => self.probe_broken(clock, v),
             Event::Opens
             | Event::Calls { .. }
@@ -186,13 +190,16 @@ impl Flight {
                     && !are_selective(sides)
                     && is_repairing(after, recovery)
             }
-            Event::Recovers(_) => !(are_selective(sides) && self.finds_lost(clock, &touched.before)),
+            Event::Recovers(RecoveryChange::Begins) => {
+                !(are_selective(sides) && self.finds_lost(clock, &touched.before))
+            }
             Event::Opens
             | Event::Calls { .. }
             | Event::Drops { .. }
             | Event::Builds(_)
             | Event::Sends(_)
-            | Event::Expires(_) => false,
+            | Event::Expires(_)
+            | Event::Recovers(RecoveryChange::IsUndone) => false,
         }
     }
 
@@ -209,15 +216,14 @@ impl Flight {
     {
         match event {
             Event::Builds(plan) => self.rescued || self.uses_rescue(clock, before, plan),
-            Event::Expires(Timer::Rto) | Event::Recovers(_) => false,
+            Event::Expires(Timer::Rto) | Event::Recovers(RecoveryChange::Begins) => false,
             Event::Opens
             | Event::Calls { .. }
             | Event::Processes { .. }
             | Event::Drops { .. }
             | Event::Sends(_)
-            | Event::Expires(Timer::Persist | Timer::Msl2 | Timer::Giveup | Timer::Pto) => {
-                self.rescued
-            }
+            | Event::Expires(Timer::Persist | Timer::Msl2 | Timer::Giveup | Timer::Pto)
+            | Event::Recovers(RecoveryChange::IsUndone) => self.rescued,
         }
     }
 
@@ -260,6 +266,7 @@ impl Flight {
         let recovers = is_recovering(&touched.before, self.recovery);
         let r = read_reports(sides, &seen.blocks);
         let oldest = self.marks_oldest(clock, touched, after, sides, recovery);
+        let undoing = self.undoing_after(seen, touched, after, sides, &r);
         self.rescued = self.rescued_after(clock, &touched.event, &touched.before);
         self.note_marks(seen.syn_change, touched, after, &r, oldest)?;
         let now = Now {
@@ -274,6 +281,8 @@ impl Flight {
         self.recovery = recovery;
         let before = &touched.before;
         self.probing = probing_after(moment, &touched.event, before, after, self.probing);
+        self.undoing = undoing;
+        self.clocks = clocks_after(seen, &touched.event, after, self.clocks);
         Ok(())
     }
 }

@@ -4,17 +4,20 @@ ghost use Rattle.std.specs.Prelude.{◌≡◌, ◌+◌, None, nat_eq, unwrap_or,
 ghost use Rattle.std.specs.Map.{lookup};
 ghost use Rattle.indexmap.specs.IndexMap.{insert_entry};
 ghost use Rattle.spec_network.specs.Tables.{on, pick};
+ghost use Rattle.spec_flights.specs.Clocks.{excused_at};
 ghost use Rattle.spec_flights.specs.Flights as spec;
-ghost use Rattle.spec_flights.specs.Flights.{broken_at, flight_after, flight_at, flights_after, flights_touched};
-ghost use Rattle.spec_flights.specs.Flights.{refusal, sends_untrue, start, unflown};
+ghost use Rattle.spec_flights.specs.Flights.{broken_at, excused, flight_after, flight_at, flights_after};
+ghost use Rattle.spec_flights.specs.Flights.{flights_touched, refusal, sends_untrue, start, unflown};
 ghost use Rattle.spec_duties.specs.Resent.{judges_repeats};
 
+use crate::clocks::{excused_at, no_clocks};
 use crate::flight::Flight;
 use crate::held::{Untrue, why_untrue};
 use crate::probe_standing::ProbeStanding;
 use crate::standing::Standing;
 use case_forms::{Header, Host, Judged, OutOfMemory};
 use spec_duties::{Observation, TouchedEndpoint, View};
+use spec_flights::Clocks;
 use spec_tcp::{Endpoint, EndpointId};
 use std::alloc::Global;
 use std::marker::Model;
@@ -183,6 +186,54 @@ impl Flights {
             }
             None => None,
         }
+    }
+
+    // What is known of timestamps at an endpoint.
+    fn clocks_at(&self, host: Host, place: u32) -> Clocks
+        ensures { result ≡ (flight_at self.now host place).clocks }
+    {
+        if let Some(tables) = &self.tables {
+            if let Some(flight) = tables.get(host).get(u64::from(place)) {
+                return flight.clocks;
+            }
+        }
+        no_clocks()
+    }
+
+    // What duties see of a step at an endpoint.
+    fn excused_by(&self, touched: &TouchedEndpoint, seen: &Observation) -> Observation
+        ensures { result ≡ excused_at (flight_at self.now touched.now.host touched.now.place).clocks seen.now }
+    {
+        if seen.dropping.is_none() {
+            return *seen;
+        }
+        excused_at(self.clocks_at(touched.host, touched.place), seen)
+    }
+
+    /// What duties see of a step: an endpoint may drop a segment that is too old by its timestamps, or lacks them.
+    #[inline(always)]
+    pub fn excused(&self, header: &Header, seen: &Observation) -> Observation
+        ensures { result ≡ excused header.now self.now seen.now }
+    {
+        if !header.version.says_sender() {
+            return *seen;
+        }
+        match &seen.touched {
+            Some(touched) => self.excused_by(touched, seen),
+            None => *seen,
+        }
+    }
+
+    /// Whether the last recovery of the endpoint at this place wasn't needed, so that it may be undone.
+    pub fn is_spurious(&self, host: Host, place: u32) -> bool
+        ensures { result ≡ (flight_at self.now host place).undoing.is_spurious }
+    {
+        if let Some(tables) = &self.tables {
+            if let Some(flight) = tables.get(host).get(u64::from(place)) {
+                return flight.undoing.is_spurious;
+            }
+        }
+        false
     }
 
     /// Whether an endpoint may not send a segment with these bytes, because of its blocks: its peer's SYN didn't permit

@@ -6,12 +6,14 @@
 //! it takes out, or passes once for each recovery.
 //!
 //! - `sides`: which endpoints acknowledge selectively
+//! - `clocks`: which segments are too old by their timestamps, or lack them
 //! - `recovering`: up to which position an endpoint recovers from a loss
 //! - `probing`: when a probe for a loss is due, and until when it is on its way
 //! - `scoreboard`: what is known of outstanding positions; `walk`: what is in flight of
 //!   them; `steps`: what a step changes of it
 //! - `late`: what is lost; `delivered`: what an acknowledgment delivers
 //! - `marks`: which positions a step marks, and from which it takes the mark
+//! - `undoing`: when an acknowledgment shows that a recovery wasn't needed
 //! - `held`: what an endpoint holds of its peer's stream beyond what is next in order, and what it may report
 //! - `flight`: what is kept of an endpoint; `free`: what may be sent again
 //! - `standing`: what an endpoint knows of a position that it sent, for explanations; `probe_standing`: what keeps it
@@ -20,6 +22,7 @@
 //! - `laws`: what follows from steps that aren't refused
 #![tactic(auto)]
 
+mod clocks;
 mod delivered;
 mod flight;
 mod flights;
@@ -35,6 +38,7 @@ mod scoreboard;
 mod sides;
 mod standing;
 mod steps;
+mod undoing;
 mod walk;
 
 pub use flights::Flights;

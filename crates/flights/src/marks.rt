@@ -8,7 +8,7 @@ ghost use Rattle.spec_flights.specs.Marks.{outstanding, own_syn, taken_by};
 ghost use Rattle.spec_flights.specs.Scoreboard.{stretch_built};
 
 use crate::delivered::no_positions;
-use case_forms::{SegmentPlan, Timer};
+use case_forms::{RecoveryChange, SegmentPlan, Timer};
 use spec_duties::{Event, SynChange, View};
 use spec_flights::Stretch;
 
@@ -117,13 +117,14 @@ pub(crate) fn taken_by(event: &Event, before: &View) -> Stretch
                 old_part(before, plan)
             }
         }
+        Event::Recovers(RecoveryChange::IsUndone) => outstanding(before),
         Event::Opens
         | Event::Calls { .. }
         | Event::Processes { .. }
         | Event::Drops { .. }
         | Event::Sends(_)
         | Event::Expires(_)
-        | Event::Recovers(_) => no_positions(),
+        | Event::Recovers(RecoveryChange::Begins) => no_positions(),
     }
 }
 

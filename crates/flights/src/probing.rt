@@ -6,7 +6,7 @@ ghost use Rattle.spec_flights.specs.Probing.{probe_after, probe_before, probe_bu
 ghost use Rattle.spec_flights.specs.Probing.{probing_after};
 
 use crate::marks::{is_fin_alone, making_length};
-use case_forms::{SegmentPlan, Timer};
+use case_forms::{RecoveryChange, SegmentPlan, Timer};
 use spec_duties::{Event, View};
 use spec_flights::{Probe, Probing};
 
@@ -101,16 +101,15 @@ fn probe_after(event: &Event, before: &View, after: &View, probe: Probe) -> Prob
 {
     match event {
         Event::Expires(Timer::Pto) => Probe::Due,
-        Event::Expires(Timer::Rto) | Event::Recovers(_) => Probe::Nothing,
+        Event::Expires(Timer::Rto) | Event::Recovers(RecoveryChange::Begins) => Probe::Nothing,
         Event::Builds(plan) => probe_built(before, after, plan, probe),
         Event::Opens
         | Event::Calls { .. }
         | Event::Processes { .. }
         | Event::Drops { .. }
         | Event::Sends(_)
-        | Event::Expires(Timer::Persist | Timer::Msl2 | Timer::Giveup) => {
-            probe_before(after, probe)
-        }
+        | Event::Expires(Timer::Persist | Timer::Msl2 | Timer::Giveup)
+        | Event::Recovers(RecoveryChange::IsUndone) => probe_before(after, probe),
     }
 }
 

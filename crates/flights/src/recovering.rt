@@ -3,7 +3,7 @@
 ghost use Rattle.std.specs.Prelude.{◌≡◌};
 ghost use Rattle.spec_flights.specs.Recovering.{is_recovering, is_repairing, none_begun, recovery_after};
 
-use case_forms::Timer;
+use case_forms::{RecoveryChange, Timer};
 use spec_duties::{Event, View};
 use spec_flights::Recovery;
 
@@ -40,9 +40,13 @@ pub(crate) fn recovery_after(event: &Event, after: &View, recovery: Recovery) ->
             point: after.snd_max,
             is_fast: false,
         },
-        Event::Recovers(_) => Recovery {
+        Event::Recovers(RecoveryChange::Begins) => Recovery {
             point: after.snd_max,
             is_fast: true,
+        },
+        Event::Recovers(RecoveryChange::IsUndone) => Recovery {
+            point: 0,
+            is_fast: recovery.is_fast,
         },
         Event::Opens
         | Event::Calls { .. }

@@ -3,9 +3,11 @@
 ghost use Rattle.std.specs.Prelude.{◌≡◌, OnOk};
 ghost use Rattle.std.specs.FinSet.{from_list};
 ghost use Rattle.streams.specs.Ranges.{meets};
-ghost use Rattle.spec_flights.specs.Scoreboard.{nothing_built, with_built, with_given_up};
+ghost use Rattle.spec_flights.specs.Scoreboard.{nothing_built, number_built, number_sent, with_built, with_given_up};
+ghost use Rattle.spec_flights.specs.Scoreboard.{with_nothing_given_up};
 
 use case_forms::OutOfMemory;
+use spec_duties::BuiltChange;
 use spec_flights::{Latest, Making, Stretch};
 use std::alloc::Global;
 use std::collections::VecDeque;
@@ -32,6 +34,26 @@ pub(crate) struct Scoreboard {
     pub(crate) latest: Option<Latest>,
     /// The least round trip, in microseconds.
     pub(crate) least: Option<u64>,
+}
+
+/// The number under which a step builds a segment.
+pub(crate) fn number_built(change: BuiltChange) -> u32
+    ensures { result ≡ number_built change }
+{
+    match change {
+        BuiltChange::Builds(number) => number,
+        BuiltChange::Nothing | BuiltChange::Sends(_) => 0,
+    }
+}
+
+/// The number under which what a step sends was built.
+pub(crate) fn number_sent(change: BuiltChange) -> u32
+    ensures { result ≡ number_sent change }
+{
+    match change {
+        BuiltChange::Sends(number) => number,
+        BuiltChange::Nothing | BuiltChange::Builds(_) => 0,
+    }
 }
 
 impl Model for Scoreboard {
@@ -104,5 +126,12 @@ impl Scoreboard {
         ensures { self.new ≡ with_given_up self.old }
     {
         self.given_up = self.newest;
+    }
+
+    /// Nothing is given up.
+    pub(crate) fn give_up_nothing(&mut self)
+        ensures { self.new ≡ with_nothing_given_up self.old }
+    {
+        self.given_up = 0;
     }
 }

@@ -12,7 +12,7 @@ use crate::marks::old_part;
 use crate::recovering::is_recovering;
 use crate::scoreboard::Scoreboard;
 use crate::sides::are_selective;
-use case_forms::SegmentPlan;
+use case_forms::{RecoveryChange, SegmentPlan};
 use spec_duties::{Event, View};
 use spec_flights::{Probe, Stretch};
 use streams::{Outstanding, next_run};
@@ -149,13 +149,14 @@ impl Flight {
     fn decisive(&self, clock: u128, event: &Event, v: &View) -> Option<u64> {
         match event {
             Event::Builds(plan) => self.first_kept(clock, v, plan),
-            Event::Recovers(_) => self.board.first_in_flight(v),
+            Event::Recovers(RecoveryChange::Begins) => self.board.first_in_flight(v),
             Event::Opens
             | Event::Calls { .. }
             | Event::Processes { .. }
             | Event::Drops { .. }
             | Event::Sends(_)
-            | Event::Expires(_) => None,
+            | Event::Expires(_)
+            | Event::Recovers(RecoveryChange::IsUndone) => None,
         }
     }
 

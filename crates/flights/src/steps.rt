@@ -1,11 +1,13 @@
 //! What is known of outstanding positions after a step.
 
 ghost use Rattle.std.specs.Prelude.{◌≡◌, OnOk};
+ghost use Rattle.case_forms.specs.declared.timer.RecoveryChange.TheVariants.{Begins, IsUndone};
 ghost use Rattle.spec_flights.specs.Flights.{board_after, board_heard, board_opened};
+ghost use Rattle.spec_flights.specs.Scoreboard.{with_nothing_given_up};
 
 use crate::marks::{opens_probed, stretch_built};
 use crate::scoreboard::Scoreboard;
-use case_forms::{OutOfMemory, Timer};
+use case_forms::{OutOfMemory, RecoveryChange, Timer};
 use spec_duties::{Event, TouchedEndpoint, View};
 use spec_flights::{Reports, Stretch};
 
@@ -54,6 +56,17 @@ impl Scoreboard {
         }
     }
 
+    // A recovery begins, or is undone.
+    fn note_recovery(&mut self, change: RecoveryChange)
+        ensures begins { change ≡ Begins → self.new ≡ self.old }
+        ensures undone { change ≡ IsUndone → self.new ≡ with_nothing_given_up self.old }
+    {
+        match change {
+            RecoveryChange::Begins => {}
+            RecoveryChange::IsUndone => self.give_up_nothing(),
+        }
+    }
+
     /// Takes a step; a segment that it builds has this number. If memory runs out, nothing of it is of use any more.
     pub(crate) fn note(
         &mut self,
@@ -77,7 +90,10 @@ impl Scoreboard {
                 self.build(number, now.moment, stretch_built(&plan, before, after))?;
             }
             Event::Expires(Timer::Rto | Timer::Persist) => self.give_up(),
-            Event::Recovers(_) => self.settle(now.recovers, now.clock),
+            Event::Recovers(change) => {
+                self.settle(now.recovers, now.clock);
+                self.note_recovery(change);
+            }
             Event::Opens
             | Event::Calls { .. }
             | Event::Drops { .. }

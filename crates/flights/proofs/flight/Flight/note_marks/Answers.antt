@@ -35,6 +35,8 @@ returns c =
       board = c.self.inside.board;
       rescued = c.self.inside.rescued;
       probing = c.self.inside.probing;
+      undoing = c.self.inside.undoing;
+      clocks = c.self.inside.clocks;
       held = items c.self.inside.held;
     }
 
