@@ -29,7 +29,6 @@ use Rattle.spec_tcp_laws.proofs.Rules.{at_most_to, both_true}
 use Rattle.duties.proofs.SlackLemmas.{dutiful_any, late_any, nothing_judged}
 use Rattle.spec_flights.specs.Flights.{judges}
 use Rattle.spec_cases.specs.Cases.{Dutiful, Known, first_known, known_after_all, late_at_end, model_rules, untrue_at, watch_rules}
-use Rattle.spec_duties.specs.Observations.{observe}
 use Rattle.spec_cases.specs.Slack.{AtMost, with_slack}
 use Rattle.watched.proofs.AscendLemmas.{tops}
 use Rattle.watched.proofs.RefusalLemmas.{model_top}
@@ -122,7 +121,7 @@ case_named : (h : Header) (k : Known) (o : Option (Stamped tcp_shape)) (rule : R
 case_named h k None rule any is = absurd (none-some rule is)
 case_named h k (Some x) rule any is =
     let untrue = untrue_at h k x.step in
-    let none = nothing_judged h x.moment k.duties untrue (observe h x.moment k.model x.step) any in
+    let none = nothing_judged h x.moment k.duties untrue (shown h x.moment k x.step) any in
     first_named (model_rules h x.moment k x.step) (watch_rules h x.moment k x.step) rule (model_top h x.moment k x.step)
     (λ broken. untrue_named untrue rule (sym (ap first_broken none) ∙ broken)) is
 

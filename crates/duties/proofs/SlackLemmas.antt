@@ -23,7 +23,7 @@ use Rattle.spec_duties.specs.Answering.{Waits, answer_due, answer_since, answere
 use Rattle.spec_duties.specs.declared.answering.CallChange.{CallChange}
 use Rattle.spec_duties.specs.declared.answering.OpenCall.{OpenCall}
 use Rattle.spec_flights.specs.Flights.{judges}
-use Rattle.spec_cases.specs.Cases.{Known, Dutiful, judged_rules, known_after, late_at_end, noted_by, refused_at, refused_by, untrue_at, untrue_by}
+use Rattle.spec_cases.specs.Cases.{Known, Dutiful, judged_rules, known_after, late_at_end, noted_by, refused_at, refused_by, shown, untrue_at, untrue_by}
 use Rattle.spec_duties.specs.Credits.{credit_of, earliest_credit, has_credit, spent}
 use Rattle.spec_duties.specs.Deadlines.{is_late}
 use Rattle.spec_duties.specs.Excess.{is_excess}
@@ -34,7 +34,6 @@ use Rattle.spec_duties.specs.Owed.{lates_of, lates_of_open, none_late}
 use Rattle.spec_duties.specs.Probe.{probing_due}
 use Rattle.spec_duties.specs.Resent.{judges_repeats}
 use Rattle.spec_duties.specs.Reset.{reset_since}
-use Rattle.spec_duties.specs.Observations.{observe}
 use Rattle.spec_cases.specs.Slack.{AtMost, HasMoreCredits, LessLateIsMoreAccepted, NothingIsJudged, SlackIsHardlyNoted, AreInOrder, credits_left, with_slack}
 use Rattle.spec_duties.specs.Start.{start_due}
 use Rattle.spec_duties.specs.Strict.{brought_by, coarse_expiry_due, coarse_probing_due, strict_lates, with_brought}
@@ -95,7 +94,7 @@ dutiful_any h k [] any unjudged = tt
 dutiful_any h k (x ∷ xs) any unjudged = (
   record {
     duties =
-        ap first_broken (nothing_judged h x.moment k.duties (untrue_at h k x.step) (observe h x.moment k.model x.step) any)
+        ap first_broken (nothing_judged h x.moment k.duties (untrue_at h k x.step) (shown h x.moment k x.step) any)
         ∙ ap (λ (b : Bool). first_broken ((rules.SackUntrue, b) ∷ [])) (unasked h k x.step unjudged);
     flights = refused_unjudged h x.moment k x.step unjudged;
   },

@@ -10,16 +10,15 @@ use Rattle.std.proofs.lemmas.Option.{none-some, same_Some}
 use Rattle.case_forms.specs.declared.calls.Host.{Host}
 use Rattle.case_forms.specs.declared.calls.Host.TheVariants.{Zero, One}
 use Rattle.case_forms.specs.declared.trace.Header.{Header}
-use Rattle.verdict.proofs.RuleLemmas.{none_all}
 use Rattle.spec_network.specs.HostSteps.{after}
 use Rattle.spec_network.specs.Hosts.{Stamped, World}
 use Rattle.spec_network.specs.Tables.{Made, pick, waiting}
 use Rattle.spec_tcp.specs.Machine.{tcp, tcp_shape}
 use Rattle.spec_tcp.specs.declared.endpoint.Emission.{Emission}
-use Rattle.spec_cases.specs.Cases.{Known, first_known, untrue_at}
+use Rattle.spec_cases.specs.Cases.{Known, first_known}
 use Rattle.spec_duties.specs.Deadlines.{is_late}
 use Rattle.spec_duties.specs.Observations.{observe, view_in}
-use Rattle.spec_duties.specs.Watching.{Duties, builds_mere_ack, built_after, built_by, counts_now, duty_rules, sent_late}
+use Rattle.spec_duties.specs.Watching.{builds_mere_ack, built_after, built_by, counts_now, sent_late}
 use Rattle.spec_duties.specs.declared.observations.BuiltChange.{BuiltChange}
 use Rattle.spec_duties.specs.declared.observations.BuiltChange.TheVariants as built_change
 use Rattle.spec_duties.specs.declared.tables.Built.{Built}
@@ -142,7 +141,7 @@ module _ (h : Header) (slack n : ℕ) (acts : ℕ → Option (Stamped tcp_shape)
         → waiting q (known (suc j)).duties.built
         ≡ waiting q (built_after shown_view x.moment (observe h x.moment (known j).model x.step).touched p table)
     go_on q p shows =
-        ap (λ (d : Duties). waiting q d.built) goes.duties
+        ap (waiting q) goes.built
         ∙ ap (λ p. waiting q (built_after shown_view x.moment (observe h x.moment (known j).model x.step).touched p table)) shows
 
     new : (host : Host) (number : ℕ) (m : Made Emission) → IsNew x.moment (known j).model x.step host number m → InTime (suc j) (known (suc j)) host number m
@@ -251,7 +250,7 @@ module _ (h : Header) (slack n : ℕ) (acts : ℕ → Option (Stamped tcp_shape)
       let old = all_in_time j (omega (arith, low)) host number sent.1.made sent.1.there in
       let b = old.waits sent.1.unsent in
       let d = (known j).duties in
-      let fine = (none_all (duty_rules h slack y.moment d (untrue_at h (known j) y.step) (observe h y.moment (known j).model y.step)) goes.dutiful).1.1.1.0 in
+      let fine = goes.dutiful.1.1.1.0 in
       let due : is_late slack y.moment (option_map (λ (b : Built). b.since) (waiting number d.built)) ≡ false =
       sym (ap (λ p. sent_late slack y.moment (built_by d p)) sent.0) ∙ fine in (
         old.was,

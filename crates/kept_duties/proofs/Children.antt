@@ -208,7 +208,7 @@ module _ (t : Trace) (w : Witness) (slack : ℕ) (r : Run t.header slack (length
           (steady_at t w slack r placed j (omega (arith, less))) goes.permitted me pending.there.0 pending.there.1 in
           inr (record {
             closed =
-                ap (λ (d : Duties). closed_in (pick d.listening me.host) l) goes.duties
+                ap (λ (both : Both (List (ℕ × Listening))). closed_in (pick both me.host) l) goes.listening
                 ∙ kept_queued s.queueing (on s.touched both (moved_by v both)) me.host l y.moment moment not_again
                 (kept_both v s.touched both me.host l moment pending.closed);
             low = λ since is. pending.low since (sym (ap (λ (o : Owed). o.reset) same) ∙ is);
@@ -277,9 +277,10 @@ module _ (t : Trace) (w : Witness) (slack : ℕ) (r : Run t.header slack (length
           test false none =
               let old = since.2 in
               later (from_step t w slack r placed me (λ o. o.reset ≡ Some since.0) SendsReset (λ v. false) (λ l. l.reset) j (moment + slack)
-              (reset_wait since.0 (moment + slack) slack (omega (arith, old))) (reset_same t.header slack) late y.moment touch.event
+              (reset_wait since.0 (moment + slack) slack (omega (arith, old))) (reset_same t.header slack)
+              (λ is as plain rest owes. ap (λ (o : Owed). o.reset) rest ∙ owes) late y.moment touch.event
               (happens_from t w j y me touch.event at touch.shows) refl
-              (ap (λ (o : Owed). o.reset) owes.after
+              (ap (λ (o : Owed). o.reset) owes.rest
               ∙ reset_is touch.event before after' y.moment owes.listener owes.counts o
               ∙ ap (λ (b : Bool). if b then None
               else option_or (reset_since before owes.listener o.reset) (if aborts touch.event after' then Some y.moment else None)) none
@@ -289,7 +290,7 @@ module _ (t : Trace) (w : Witness) (slack : ℕ) (r : Run t.header slack (length
   begins : awaits_reset l (seen_before t w (suc place) me) ≡ true → Pending (known_before t w (suc place))
   begins awaits = record {
     closed =
-        ap (λ (d : Duties). closed_in (pick d.listening me.host) l) goes.duties
+        ap (λ (both : Both (List (ℕ × Listening))). closed_in (pick both me.host) l) goes.listening
         ∙ ap (λ (q : Queueing). closed_in (pick (queued c.act.moment q (on s.touched both (moved_by v both))) me.host) l) closes
         ∙ closed_here (on s.touched both (moved_by v both)) me.host l c.act.moment
         ∙ ap (λ (m : ℕ). Some m) c.time;

@@ -468,7 +468,7 @@ module _ (t : Trace) (w : Witness) (slack : ℕ) (given : t.header.slack ≡ Som
           let owes = owes_of t w slack r j y me touch.event at touch.shows in
           let before = seen (known_before t w j).model me in
           let now : left (suc j) ≡ answers_after touch.event before owes.counts (left j) =
-          ap (λ (o : Owed). o.answers) owes.after
+          ap (λ (o : Owed). o.answers) owes.rest
           ∙ answers_is touch.event before (seen (known_before t w (suc j)).model me) y.moment owes.listener owes.counts
           (owed_by (known_before t w j).duties me.host me.number) in
           subst (λ (n : ℕ). (if sends_mere_at t w me j then suc (count_before (sends_mere_at t w me) j) else count_before (sends_mere_at t w me) j) + n

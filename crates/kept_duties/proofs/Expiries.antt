@@ -160,7 +160,7 @@ module _ (t : Trace) (w : Witness) (slack : ℕ) (r : Run t.header slack (length
           let o = owed_by (known_before t w j).duties me.host me.number in
           let owes = owes_of t w slack r j x me at.event is at.shows in
           subst (λ (n : ℕ). n ≤ from)
-          (sym (ap (λ (o : Owed). o.opened) owes.after ∙ opened_is at.event before after x.moment owes.listener owes.counts o))
+          (sym (ap (λ (o : Owed). o.opened) owes.rest ∙ opened_is at.event before after x.moment owes.listener owes.counts o))
           (by (before.snd_wnd == 0 && nat_lt 0 after.snd_wnd) refl)
         where
           by : (b : Bool) → ((seen (known_before t w j).model me).snd_wnd == 0 && nat_lt 0 (seen (known_before t w (suc j)).model me).snd_wnd) ≡ b
@@ -180,7 +180,8 @@ module _ (t : Trace) (w : Witness) (slack : ℕ) (r : Run t.header slack (length
       → ExpiriesAreInTime t w slack
   expiries_in_time plain placed late place moment since from me event a runs low opened =
       from_step t w slack r placed me (λ o. o.opened ≤ from) TimesOut (λ v. not (runs_on since first v)) (λ l. l.expire) place
-      (from + run_time first + slack) (expiry_wait since from slack first low) (plain_same (λ l. l.expire) t.header slack plain) late moment event a
+      (from + run_time first + slack) (expiry_wait since from slack first low) (plain_same (λ l. l.expire) t.header slack plain)
+      (λ is as plain rest low. let same : is.opened ≡ as.opened = ap (λ (o : Owed). o.opened) rest in omega (arith, same, low)) late moment event a
       (ap (λ (v : World tcp_shape). not (runs_on since first (seen v me))) (world_is t w (suc place)) ∙ ap not (runs_self since first runs))
       (opened_low me place from (within t w place a.act a.is) opened)
     where

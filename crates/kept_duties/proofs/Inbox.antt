@@ -7,16 +7,15 @@ use Rattle.std.proofs.lemmas.Option.{none-some, same_Some, some_pair_parts}
 use Rattle.case_forms.specs.declared.calls.Host.{Host}
 use Rattle.case_forms.specs.declared.calls.Host.TheVariants.{Zero, One}
 use Rattle.case_forms.specs.declared.trace.Header.{Header}
-use Rattle.verdict.proofs.RuleLemmas.{none_all}
 use Rattle.spec_network.specs.Hosts.{Stamped, World}
 use Rattle.spec_network.specs.Tables.{pick, waiting}
 use Rattle.spec_tcp.specs.Machine.{tcp_shape}
 use Rattle.spec_tcp.specs.declared.endpoint.Emission.{Emission}
-use Rattle.spec_cases.specs.Cases.{Known, first_known, untrue_at}
+use Rattle.spec_cases.specs.Cases.{Known, first_known}
 use Rattle.spec_duties.specs.Deadlines.{is_late}
 use Rattle.spec_duties.specs.End.{first_waiting}
 use Rattle.spec_duties.specs.Observations.{observe}
-use Rattle.spec_duties.specs.Watching.{Duties, duty_rules, inbox_after, leaves_late}
+use Rattle.spec_duties.specs.Watching.{Duties, inbox_after, leaves_late}
 use Rattle.spec_duties.specs.declared.observations.InboxChange.{InboxChange}
 use Rattle.spec_duties.specs.declared.observations.InboxChange.TheVariants as inbox_change
 use Rattle.kept_duties.proofs.Runs.{Goes, Run, run_goes, run_keeps}
@@ -84,7 +83,7 @@ module _ (h : Header) (slack n : ℕ) (acts : ℕ → Option (Stamped tcp_shape)
     begins =
         let goes = run_goes h slack n acts known r i x low is in
         let s = observe h x.moment (known i).model x.step in
-        inr (ap (λ (d : Duties). waiting line d.inbox) goes.duties
+        inr (ap (waiting line) goes.inbox
         ∙ ap (λ m. waiting line (inbox_after x.moment m (known i).duties.inbox)) (inbox_change_enters h x.moment (known i).model x.step host line comes)
         ∙ waiting_here line (Some x.moment) (known i).duties.inbox)
 
@@ -107,7 +106,7 @@ module _ (h : Header) (slack n : ℕ) (acts : ℕ → Option (Stamped tcp_shape)
 
         go_on : (m : InboxChange) → (observe h y.moment (known j).model y.step).inbox_change ≡ m → waiting line (inbox_after y.moment m d.inbox) ≡ Some x.moment
             → IsLeft (suc j) (known (suc j))
-        go_on m shows still = inr (ap (λ (d : Duties). waiting line d.inbox) goes.duties ∙ ap (λ m. waiting line (inbox_after y.moment m d.inbox)) shows
+        go_on m shows still = inr (ap (waiting line) goes.inbox ∙ ap (λ m. waiting line (inbox_after y.moment m d.inbox)) shows
             ∙ still)
 
         leaving : (g : Host) → (observe h y.moment (known j).model y.step).inbox_change ≡ inbox_change.Leaves line → leaves y.step ≡ Some (g, line)
@@ -115,8 +114,7 @@ module _ (h : Header) (slack n : ℕ) (acts : ℕ → Option (Stamped tcp_shape)
         leaving g shows takes =
             let m = leaves_waits h y.moment (known j).model y.step g line goes.permitted takes in
             let same : g ≡ host = same_host j (omega (arith, less)) g m.0 m.1 in
-            let untrue = untrue_at h (known j) y.step in
-            let fine = (none_all (duty_rules h slack y.moment d untrue (observe h y.moment (known j).model y.step)) goes.dutiful).1.1.0 in
+            let fine = goes.dutiful.1.1.0 in
             inl (record {
               place = j;
               act = y;

@@ -1,3 +1,4 @@
+pub mod Excused
 pub mod Runs
 pub mod Observations
 pub mod Inbox

@@ -214,7 +214,7 @@ module _ (t : Trace) (w : Witness) (slack : ℕ) (r : Run t.header slack (length
           let owes = owes_of t w slack r j x me touch.event at touch.shows in
           let here : event_for me (observe t.header x.moment (known_before t w j).model x.step).touched ≡ Some touch.event =
           ap (event_for me) touch.shows ∙ event_here (known_before t w j).model me touch.event in
-          ap (λ (o : Owed). o.probing) owes.after
+          ap (λ (o : Owed). o.probing) owes.rest
           ∙ probing_is touch.event before after x.moment owes.listener owes.counts (owed_by (known_before t w j).duties me.host me.number) probes old
           ∙ ap (λ (v : World tcp_shape). option_map probing_of (probes_after touch.event (seen v me) after x.moment probes)) (world_is t w j)
           ∙ ap (λ (v : World tcp_shape). option_map probing_of (probes_after touch.event (seen_before t w j me) (seen v me) x.moment probes))
@@ -245,7 +245,7 @@ module _ (t : Trace) (w : Witness) (slack : ℕ) (r : Run t.header slack (length
   probes_in_time plain placed late place moment me event p a probes low =
       from_step t w slack r placed me (λ o. o.probing ≡ Some (probing_of p)) ProbesIt (λ v. not (awaits_probe first.timers.rto v)) (λ l. l.probe) place
       (p.since + probe_time first p.count + slack) (probe_wait first.timers.rto slack p low)
-      (plain_same (λ l. l.probe) t.header slack plain) late moment event a
+      (plain_same (λ l. l.probe) t.header slack plain) (λ is as plain rest owes. ap (λ (o : Owed). o.probing) rest ∙ owes) late moment event a
       (ap (λ (v : World tcp_shape). not (awaits_probe first.timers.rto (seen v me))) (world_is t w (suc place)) ∙ ap not awaits)
       (agree_at me (suc place) (within t w place a.act a.is) ∙ ap (option_map probing_of) probes)
     where

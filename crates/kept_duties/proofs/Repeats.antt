@@ -114,7 +114,7 @@ module _ (t : Trace) (w : Witness) (slack : ℕ) (r : Run t.header slack (length
         let repeats : is_repeating (seen k.model me) p ≡ true =
         subst (λ (v : World tcp_shape). is_repeating (seen v me) p ≡ true) (sym (world_is t w first)) (repeats_is t w first me p a) in
         let now : again (known_before t w (suc first)) ≡ max (again k) (repeated_end (seen k.model me) p) =
-        ap (λ (o : Owed). o.again) owes.after
+        ap (λ (o : Owed). o.again) owes.rest
         ∙ again_is (Builds p) (seen k.model me) (seen (known_before t w (suc first)).model me) x.moment owes.listener owes.counts
         (owed_by k.duties me.host me.number)
         ∙ ap (λ (c : Bool). if c then max (again k) (repeated_end (seen k.model me) p) else again k) repeats in
@@ -145,7 +145,7 @@ module _ (t : Trace) (w : Witness) (slack : ℕ) (r : Run t.header slack (length
             ∙ begins_is at.event (seen_before t w j me) (seen_before t w (suc j) me)
             ∙ nothing j y.moment at.event (omega arith) high (happens_from t w j y me at.event is at.shows) in
             let now : again (known_before t w (suc j)) ≡ passed_by at.event before (again (known_before t w j)) =
-            ap (λ (o : Owed). o.again) owes.after
+            ap (λ (o : Owed). o.again) owes.rest
             ∙ again_is at.event before after y.moment owes.listener owes.counts (owed_by (known_before t w j).duties me.host me.number)
             ∙ ap (λ (c : Bool). if c then before.snd_una else passed_by at.event before (again (known_before t w j))) none in
             let grows = passed_grows at.event before (again (known_before t w j)) in

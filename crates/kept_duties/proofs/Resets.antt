@@ -28,7 +28,7 @@ use Rattle.spec_duties.specs.End.{end_rules}
 use Rattle.spec_duties.specs.Owed.{lates_of, lates_of_open, none_late, owed_after}
 use Rattle.spec_duties.specs.Reset.{aborts, reset_since, sends_reset}
 use Rattle.spec_duties.specs.Observations.{observe, view_in}
-use Rattle.spec_duties.specs.Watching.{Duties, closed_at, counts_for, left, listener_closed, listening_after, listening_at, moved, moved_by}
+use Rattle.spec_duties.specs.Watching.{closed_at, counts_for, left, listener_closed, listening_after, listening_at, moved, moved_by}
 use Rattle.spec_duties.specs.Watching.{owed_by, queued}
 use Rattle.spec_duties.specs.declared.events.Event.{Event}
 use Rattle.spec_duties.specs.declared.events.Event.TheVariants.{Calls, Sends}
@@ -222,7 +222,7 @@ module _ (t : Trace) (w : Witness) (slack : ℕ) (r : Run t.header slack (length
       listens j x is goes all host place since now =
           let s = observe t.header x.moment (known_before t w j).model x.step in
           by (listening_keeps (view_in (after (tcp t.header) x.moment (known_before t w j).model x.step) s.touched) s (known_before t w j).duties.listening host
-          place x.moment since (sym (ap (λ (d : Duties). closed_in (pick d.listening host) place) goes.duties) ∙ now))
+          place x.moment since (sym (ap (λ (both : Both (List (ℕ × Listening))). closed_in (pick both host) place) goes.listening) ∙ now))
         where
           by : (since ≡ x.moment) ⊎ (closed_in (pick (known_before t w j).duties.listening host) place ≡ Some since) → Began t w (suc j) since
           by (inl here) = began_now t w j x is since here
@@ -239,7 +239,7 @@ module _ (t : Trace) (w : Witness) (slack : ℕ) (r : Run t.header slack (length
           let owes = owes_of t w slack r j x me at.event is at.shows in
           by owes.listens (reset_back at.event (seen (known_before t w j).model me) (seen (known_before t w (suc j)).model me) x.moment
           owes.listener owes.counts
-          (owed_by (known_before t w j).duties me.host me.number) since (sym (ap (λ (o : Owed). o.reset) owes.after) ∙ now))
+          (owed_by (known_before t w j).duties me.host me.number) since (sym (ap (λ (o : Owed). o.reset) owes.rest) ∙ now))
         where
           -- the listener that created the endpoint
           of : (l : Option ℕ) → option_map_or (λ l. closed_in (pick (known_before t w j).duties.listening me.host) l) l None ≡ Some since
@@ -258,7 +258,7 @@ module _ (t : Trace) (w : Witness) (slack : ℕ) (r : Run t.header slack (length
 
   pub aborts_reset : first_broken (end_rules t.header slack (last_moment (moves w.steps)) (known_before t w (length w.steps)).duties
       (known_before t w (length w.steps)).model) ≡ None → AbortsAreReset t w slack
-  aborts_reset late place moment me a resets = done (from_then owed.0 (ap (λ (o : Owed). o.reset) owes.after ∙ owed.1))
+  aborts_reset late place moment me a resets = done (from_then owed.0 (ap (λ (o : Owed). o.reset) owes.rest ∙ owed.1))
     where
       before : View
       before = seen (known_before t w place).model me
@@ -295,7 +295,8 @@ module _ (t : Trace) (w : Witness) (slack : ℕ) (r : Run t.header slack (length
           let old = began_low t w placed place a.act a.is since ((began_at me (suc place) low).1 since now) in
           let time = a.time in
           from_step t w slack r placed me (λ o. o.reset ≡ Some since) SendsReset (λ v. false) (λ l. l.reset) place (moment + slack)
-          (reset_wait since (moment + slack) slack (omega (arith, old, time))) (reset_same t.header slack) late moment (Calls true) a refl now
+          (reset_wait since (moment + slack) slack (omega (arith, old, time))) (reset_same t.header slack)
+          (λ is as plain rest owes. ap (λ (o : Owed). o.reset) rest ∙ owes) late moment (Calls true) a refl now
 
       done : IsDoneUnless t w place (moment + slack) me SendsReset (λ v. false) → HappensBy t w place (moment + slack) me SendsReset ⊎ EndsBy w (moment + slack)
       done (inl sends) = inl sends

@@ -1,7 +1,7 @@
 -- A witness that explains its trace, place by place: what is known before each step, and what the step does to it.
 use Rattle.std.proofs.Common.{◌≡◌, ℕ, zero, suc, ◌<◌, ◌≤◌, ◌⊎◌, inl, inr, List, [], ◌∷◌, length, take, Option, Some, None, refl, ap, sym, subst, ◌∙◌, arith}
 use Rattle.std.specs.Prelude.{slice_get, get_or}
-use Rattle.std.specs.List.{cons_option}
+use Rattle.std.specs.List.{AllByRecursion, cons_option}
 use Rattle.std.specs.Option.{option_map_or}
 use Rattle.std.proofs.Math.Nat.{eq-or-lt_of_le}
 use Rattle.std.proofs.lemmas.Option.{none-some, same_Some, slice_get_cases}
@@ -12,17 +12,21 @@ use Rattle.case_forms.specs.declared.trace.Trace.{Trace}
 use Rattle.case_forms.specs.declared.steps.Step.{Step}
 use Rattle.case_forms.specs.declared.steps.Witness.{Witness}
 use Rattle.verdict.specs.Rules.{first_broken}
-use Rattle.spec_network.specs.Hosts.{Stamped}
+use Rattle.verdict.proofs.RuleLemmas.{none_all}
+use Rattle.spec_network.specs.Hosts.{Stamped, World}
 use Rattle.spec_network.specs.HostRules.{Permitted}
 use Rattle.spec_network.specs.HostSteps.{after, after_all, Lawful}
 use Rattle.spec_network.specs.Tables.{on}
 use Rattle.spec_tcp.specs.Machine.{tcp, tcp_shape}
 use Rattle.verdict.specs.declared.rule.Rule.TheVariants as rules
-use Rattle.spec_cases.specs.Cases.{Known, Dutiful, first_known, known_after, known_after_all, untrue_at, watch_rules, with_waits}
+use Rattle.spec_cases.specs.Cases.{Known, Dutiful, first_known, known_after, known_after_all, shown, untrue_at, watch_rules, with_waits}
 use Rattle.spec_duties.specs.Observations.{observe, view_in}
-use Rattle.spec_duties.specs.Watching.{duty_rules, duties_after}
+use Rattle.spec_duties.specs.Watching.{Duties, built_after, built_by, counts_now, drops_needed, duty_rules, duties_after, inbox_after, listening_after}
+use Rattle.spec_duties.specs.Watching.{owed_table_after, sent_by}
+use Rattle.spec_duties.specs.declared.observations.Observation.{Observation}
 use Rattle.checker.specs.Seen.{act_of, stamped}
 use Rattle.kept_duties.specs.Happens.{act_at, known_before, world_before}
+use Rattle.kept_duties.proofs.Excused.{Sees, built_seen, judged_by, listening_seen, rules_seen, sees}
 
 -- an induction from one place up to another
 pub onward : (P : ℕ → Type 0) (from n : ℕ) → from ≤ n → P from → ((j : ℕ) → from ≤ j → j < n → P j → P (suc j)) → P n
@@ -34,15 +38,25 @@ onward P from (suc n) le p more =
     by (inl same) before = subst P same p
     by (inr less) before = let low : from ≤ n = omega (arith, less) in more n low (omega arith) (before low)
 
--- a step that is permitted and that no duty refuses: what it makes of what is known
+-- a step that is permitted and that no duty refuses: what it makes of what is known. Duties see what timestamps excuse
 pub record Goes (h : Header) (slack : ℕ) (k next : Known) (x : Stamped tcp_shape) : Type 0 where
   pub permitted : Permitted (tcp h) x.moment k.model x.step
-  pub dutiful : first_broken (duty_rules h slack x.moment k.duties (untrue_at h k x.step) (observe h x.moment k.model x.step)) ≡ None
+  pub sees : Sees h (observe h x.moment k.model x.step) (shown h x.moment k x.step)
+  pub dropped : drops_needed k.duties (shown h x.moment k x.step).dropping ≡ false
+  pub dutiful : AllByRecursion (λ r. r.1 ≡ false)
+      (duty_rules h slack x.moment k.duties (untrue_at h k x.step) (record (observe h x.moment k.model x.step) { dropping = None }))
   pub model : next.model ≡ after (tcp h) x.moment k.model x.step
-  pub duties : next.duties
-      ≡ with_waits (says_sender h.version) x.moment (after (tcp h) x.moment k.model x.step) (observe h x.moment k.model x.step)
-      (duties_after (says_sender h.version) slack (view_in (after (tcp h) x.moment k.model x.step) (observe h x.moment k.model x.step).touched) x.moment
-      (observe h x.moment k.model x.step) k.duties)
+  pub owed : next.duties.owed
+      ≡ on (judged_by sees.judge (observe h x.moment k.model x.step).touched) k.duties.owed
+      (owed_table_after (view_in (after (tcp h) x.moment k.model x.step) (judged_by sees.judge (observe h x.moment k.model x.step).touched)) x.moment
+      (counts_now (built_by k.duties (observe h x.moment k.model x.step).built_change)) k.duties)
+  pub built : next.duties.built
+      ≡ built_after (view_in (after (tcp h) x.moment k.model x.step) (observe h x.moment k.model x.step).touched) x.moment
+      (observe h x.moment k.model x.step).touched (observe h x.moment k.model x.step).built_change k.duties.built
+  pub inbox : next.duties.inbox ≡ inbox_after x.moment (observe h x.moment k.model x.step).inbox_change k.duties.inbox
+  pub listening : next.duties.listening
+      ≡ listening_after (view_in (after (tcp h) x.moment k.model x.step) (observe h x.moment k.model x.step).touched) x.moment
+      (observe h x.moment k.model x.step) k.duties.listening
 
 -- a step that does something in the model; another changes nothing
 abbrev pub Steps : Header → (slack : ℕ) → (k next : Known) → Option (Stamped tcp_shape) → Type 0
@@ -126,17 +140,69 @@ module _ (h : Header) (lines : List Line) where
       → next ≡ known_after h x.moment k x.step → Goes h slack k next x
   goes_at slack given k next x may is = record {
     permitted = may.0;
-    dutiful =
-        sym (ap (λ o. first_broken (on o ((rules.SackUntrue, untrue_at h k x.step) ∷ [])
-        (λ slack. duty_rules h slack x.moment k.duties (untrue_at h k x.step) (observe h x.moment k.model x.step)))) given)
-        ∙ may.1;
+    sees = seen;
+    dropped = fine.0;
+    dutiful = (
+      refl,
+      (
+        rest.1.0,
+        (
+          rest.1.1.0,
+          (
+            rest.1.1.1.0,
+            rules_seen seen.judge seen.alike h slack x.moment k.duties (counts_now (built_by k.duties s.built_change)) (untrue_at h k x.step)
+                (sent_by k.duties s.built_change) s.sampling s.call_change s.touched rest.1.1.1.1,
+          ),
+        ),
+      ),
+    );
     model = ap (λ (m : Known). m.model) is;
-    duties =
-        ap (λ (m : Known). m.duties) is
-        ∙ ap (λ o. on o k.duties (λ slack. with_waits (says_sender h.version) x.moment (after (tcp h) x.moment k.model x.step)
-        (observe h x.moment k.model x.step) (duties_after (says_sender h.version) slack (view_in (after (tcp h) x.moment k.model x.step)
-        (observe h x.moment k.model x.step).touched) x.moment (observe h x.moment k.model x.step) k.duties))) given;
+    owed =
+        ap (λ (d : Duties). d.owed) noted
+        ∙ ap (λ (e : Observation). on e.touched k.duties.owed (owed_table_after (view_in w e.touched) x.moment
+        (counts_now (built_by k.duties e.built_change)) k.duties)) seen.is;
+    built =
+        ap (λ (d : Duties). d.built) noted
+        ∙ ap (λ (e : Observation). built_after (view_in w e.touched) x.moment e.touched e.built_change k.duties.built) seen.is
+        ∙ built_seen seen.judge seen.alike w x.moment s.touched s.built_change k.duties.built;
+    inbox =
+        ap (λ (d : Duties). d.inbox) noted ∙ ap (λ (e : Observation). inbox_after x.moment e.inbox_change k.duties.inbox) seen.is;
+    listening =
+        ap (λ (d : Duties). d.listening) noted
+        ∙ ap (λ (e : Observation). listening_after (view_in w e.touched) x.moment e k.duties.listening) seen.is
+        ∙ listening_seen seen.judge seen.alike w x.moment s.touched s.queueing k.duties.listening;
   }
+    where
+      w : World tcp_shape
+      w = after (tcp h) x.moment k.model x.step
+
+      s : Observation
+      s = observe h x.moment k.model x.step
+
+      e : Observation
+      e = shown h x.moment k x.step
+
+      seen : Sees h s e
+      seen = sees h k.flights s
+
+      abbrev All : Observation → Type 0
+      All e = AllByRecursion (λ r. r.1 ≡ false) (duty_rules h slack x.moment k.duties (untrue_at h k x.step) e)
+
+      fine : All e
+      fine =
+          none_all (duty_rules h slack x.moment k.duties (untrue_at h k x.step) e)
+          (sym (ap (λ o. first_broken (on o ((rules.SackUntrue, untrue_at h k x.step) ∷ [])
+          (λ slack. duty_rules h slack x.moment k.duties (untrue_at h k x.step) e))) given) ∙ may.1)
+
+      rest : All (record s { touched = judged_by seen.judge s.touched; dropping = e.dropping; earns = e.earns })
+      rest = subst All seen.is fine
+
+      noted : next.duties
+          ≡ with_waits (says_sender h.version) x.moment w e (duties_after (says_sender h.version) slack (view_in w e.touched) x.moment e k.duties)
+      noted =
+          ap (λ (m : Known). m.duties) is
+          ∙ ap (λ o. on o k.duties (λ slack. with_waits (says_sender h.version) x.moment w e
+          (duties_after (says_sender h.version) slack (view_in w e.touched) x.moment e k.duties))) given
 
   model_after : (k : Known) (xs : List (Stamped tcp_shape)) → (known_after_all h k xs).model ≡ after_all (tcp h) k.model xs
   model_after k [] = refl

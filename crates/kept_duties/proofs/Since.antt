@@ -10,6 +10,7 @@ use Rattle.case_forms.specs.States.{is_closed}
 use Rattle.case_forms.specs.declared.calls.Host.{Host}
 use Rattle.case_forms.specs.declared.calls.Host.TheVariants.{Zero, One}
 use Rattle.case_forms.specs.declared.steps.Witness.{Witness}
+use Rattle.case_forms.specs.Versions.{says_sender}
 use Rattle.case_forms.specs.declared.trace.Header.{Header}
 use Rattle.case_forms.specs.declared.trace.Trace.{Trace}
 use Rattle.verdict.specs.Rules.{first_broken}
@@ -42,6 +43,7 @@ use Rattle.spec_duties.specs.declared.views.View.{View}
 use Rattle.kept_duties.specs.Happens.{Happens, act_at, known_before, seen_before}
 use Rattle.checker.specs.Seen.{move_of, moves}
 use Rattle.kept_duties.specs.Soon.{BecomesBy, HappensBy, IsDoneUnless}
+use Rattle.kept_duties.proofs.Excused.{but_acknowledge}
 use Rattle.kept_duties.proofs.Judged.{IsSame, unbrought, without_last}
 use Rattle.kept_duties.proofs.Labels.{builder_is}
 use Rattle.kept_duties.proofs.Repeats.{goes_of, happens_from, happens_to, owes_of}
@@ -57,6 +59,11 @@ pub record Wait (Inv : Owed → Type 0) (Kind : Event → (before after : View) 
   pub either : (a b : Lates) → sel (either a b) ≡ (sel a || sel b)
   pub fine : (moment : ℕ) (v : View) (listener : Option ℕ) (o : Owed) → sel (lates_of slack moment v listener o) ≡ false → Is v ≡ false → Inv o
       → moment ≤ by
+
+-- what is read of what an endpoint owes is as if a step did what `observe` shows: of its acknowledgment in versions 1 to 5,
+-- of all else in each version
+abbrev pub IsAsShown : Header → {X : Type 0} → (Owed → X) → Type 0
+IsAsShown h get = (is as : Owed) → (says_sender h.version ≡ false → is ≡ as) → but_acknowledge is ≡ but_acknowledge as → get is ≡ get as
 
 -- a duty that an endpoint has since a moment: `get`. It has this much time, and this kind of event ends it, or CLOSED
 pub record Duty (get : Owed → Option ℕ) (extra : ℕ) (Kind : Event → (before after : View) → Type 0) (sel : Lates → Bool) : Type 0 where
@@ -169,7 +176,7 @@ module _ (t : Trace) (w : Witness) (slack : ℕ) (r : Run t.header slack (length
   -- ---- a duty began at the moment of an act
 
   module _ (me : EndpointId) (get : Owed → Option ℕ) (extra : ℕ) (Kind : Event → (before after : View) → Type 0) (sel : Lates → Bool)
-      (duty : Duty get extra Kind sel) where
+      (duty : Duty get extra Kind sel) (reads : IsAsShown t.header get) where
     abbrev since_at : Known → Option ℕ
     since_at k = get (owed_by k.duties me.host me.number)
 
@@ -193,7 +200,7 @@ module _ (t : Trace) (w : Witness) (slack : ℕ) (r : Run t.header slack (length
         next j x is goes all since now (inl at) =
             let owes = owes_of t w slack r j x me at.event is at.shows in
             by (duty.back at.event (seen (known_before t w j).model me) (seen (known_before t w (suc j)).model me) x.moment owes.listener owes.counts
-            (owed_by (known_before t w j).duties me.host me.number) since (sym (ap get owes.after) ∙ now))
+            (owed_by (known_before t w j).duties me.host me.number) since (sym (reads _ _ owes.after owes.rest) ∙ now))
           where
             by : (since ≡ x.moment) ⊎ (since_at (known_before t w j) ≡ Some since) → Began t w (suc j) since
             by (inl here) = began_now t w j x is since here
@@ -228,7 +235,8 @@ module _ (t : Trace) (w : Witness) (slack : ℕ) (r : Run t.header slack (length
   }
 
   module _ (me : EndpointId) (Inv : Owed → Type 0) (Kind : Event → (before after : View) → Type 0) (Is : View → Bool) (sel : Lates → Bool) (i by_then : ℕ)
-      (wait : Wait Inv Kind Is sel slack by_then) (same : IsSame sel t.header slack) where
+      (wait : Wait Inv Kind Is sel slack by_then) (same : IsSame sel t.header slack)
+      (reads : (is as : Owed) → (says_sender t.header.version ≡ false → is ≡ as) → but_acknowledge is ≡ but_acknowledge as → Inv as → Inv is) where
     -- what is still to be done
     record Still (k : Known) : Type 0 where
       owes : Inv (owed_by k.duties me.host me.number)
@@ -302,7 +310,7 @@ module _ (t : Trace) (w : Witness) (slack : ℕ) (r : Run t.header slack (length
               soon = soon;
             })
             ends (inr (inl closed)) = inr (inl (becomes me Is i by_then j y (omega (arith, behind)) (λ less. still.open') at closed (λ event shows. soon)))
-            ends (inr (inr on)) = stays (subst Inv (sym owes.after) on) (λ event shows. soon)
+            ends (inr (inr on)) = stays (reads _ _ owes.after owes.rest on) (λ event shows. soon)
 
     -- from a step at the endpoint on to the end
     pub from_step : (late : first_broken (end_rules t.header slack (last_moment (moves w.steps)) (known_before t w (length w.steps)).duties

@@ -41,7 +41,7 @@ use Rattle.kept_duties.proofs.Judged.{IsSame, plain_same, start_same}
 use Rattle.kept_duties.proofs.Inbox.{not_late}
 use Rattle.kept_duties.proofs.Repeats.{happens_to, owes_of}
 use Rattle.kept_duties.proofs.Runs.{Run, world_is}
-use Rattle.kept_duties.proofs.Since.{Duty, becomes, from_step, not_after, wait_of}
+use Rattle.kept_duties.proofs.Since.{Duty, IsAsShown, becomes, from_step, not_after, wait_of}
 use Rattle.kept_duties.proofs.Touched.{Owes, seen}
 
 -- all that is owed after a step, unless the endpoint is CLOSED then
@@ -359,13 +359,13 @@ module _ (t : Trace) (w : Witness) (slack : ℕ) (r : Run t.header slack (length
     (late : first_broken (end_rules t.header slack (last_moment (moves w.steps)) (known_before t w (length w.steps)).duties
     (known_before t w (length w.steps)).model) ≡ None) where
   pub arises : (me : EndpointId) (get : Owed → Option ℕ) (extra : ℕ) (Kind : Event → (before after : View) → Type 0) (sel : Lates → Bool)
-      (duty : Duty get extra Kind sel) → IsSame sel t.header slack
+      (duty : Duty get extra Kind sel) → IsSame sel t.header slack → IsAsShown t.header get
       → (place moment : ℕ) (event : Event) → Happens t w place moment me event
       → ((before after : View) (now : ℕ) (listener : Option ℕ) (counts : Bool) (o : Owed) → before ≡ seen_before t w place me
       → after ≡ seen_before t w (suc place) me → now ≡ moment → o ≡ owed_by (known_before t w place).duties me.host me.number
       → (is_closed after.state ≡ true) ⊎ ((since : ℕ) × (get (owed_after event before after now listener counts o) ≡ Some since)))
       → IsDoneBy t w place (moment + extra + slack) me Kind
-  arises me get extra Kind sel duty same place moment event a begins =
+  arises me get extra Kind sel duty same reads place moment event a begins =
       subst (λ (m : ℕ). IsDoneBy t w place (m + extra + slack) me Kind) a.time
       (by (begins (seen (known_before t w place).model me) (seen (known_before t w (suc place)).model me) a.act.moment owes.listener owes.counts
       (owed_by (known_before t w place).duties me.host me.number) (ap (λ (v : World tcp_shape). seen v me) (world_is t w place))
@@ -384,9 +384,10 @@ module _ (t : Trace) (w : Witness) (slack : ℕ) (r : Run t.header slack (length
           → (c : Bool) → is_closed (seen (known_before t w (suc place)).model me).state ≡ c → IsDoneBy t w place (a.act.moment + extra + slack) me Kind
       since_then since now true closed = at_once closed
       since_then since now false open' =
-          let old = not_after t w slack r placed me get extra Kind sel duty place a.act a.is since now in
+          let old = not_after t w slack r placed me get extra Kind sel duty reads place a.act a.is since now in
           from_step t w slack r placed me (λ o. get o ≡ Some since) Kind (λ v. is_closed v.state) sel place (a.act.moment + extra + slack)
-          (wait_of duty slack since (a.act.moment + extra + slack) (omega (arith, old))) same late moment event a open' now
+          (wait_of duty slack since (a.act.moment + extra + slack) (omega (arith, old))) same
+          (λ is as plain rest owes. reads is as plain rest ∙ owes) late moment event a open' now
 
       by : (is_closed (seen (known_before t w (suc place)).model me).state ≡ true)
           ⊎ ((since : ℕ) × (get (owed_after event (seen (known_before t w place).model me)
@@ -394,13 +395,14 @@ module _ (t : Trace) (w : Witness) (slack : ℕ) (r : Run t.header slack (length
           (owed_by (known_before t w place).duties me.host me.number)) ≡ Some since))
           → IsDoneBy t w place (a.act.moment + extra + slack) me Kind
       by (inl closed) = at_once closed
-      by (inr p) = since_then p.0 (ap get owes.after ∙ p.1) (is_closed (seen (known_before t w (suc place)).model me).state) refl
+      by (inr p) = since_then p.0 (reads _ _ owes.after owes.rest ∙ p.1) (is_closed (seen (known_before t w (suc place)).model me).state) refl
 
   -- what is received is answered
   pub receipts_answered : says_sender t.header.version ≡ false → ReceiptsAreAnswered t w slack
   receipts_answered plain place moment length me a some receives' =
       arises me (λ o. o.acknowledge) longest_delay Answers (λ l. l.acknowledge) acknowledge_duty
-      (plain_same (λ l. l.acknowledge) t.header slack plain) place moment (Processes length false) a
+      (plain_same (λ l. l.acknowledge) t.header slack plain)
+      (λ is as same rest. ap (λ (o : Owed). o.acknowledge) (same plain)) place moment (Processes length false) a
       (λ before after moment listener counts o is now at old. acknowledge_begins length before after moment listener counts o some
       (ap (λ (v : View). receives v.state) is ∙ receives_in (seen_before t w place me).state receives'))
 
@@ -408,21 +410,22 @@ module _ (t : Trace) (w : Witness) (slack : ℕ) (r : Run t.header slack (length
   pub expiries_followed : says_sender t.header.version ≡ false → ExpiriesAreFollowed t w slack
   expiries_followed plain place moment me a =
       subst (λ (m : ℕ). IsDoneBy t w place m me SendsOldest) (let e : moment + 0 + slack ≡ moment + slack = omega arith in e)
-      (arises me (λ o. o.retransmit) 0 SendsOldest (λ l. l.retransmit) retransmit_duty (plain_same (λ l. l.retransmit) t.header slack plain) place moment
-      (Expires Rto) a
+      (arises me (λ o. o.retransmit) 0 SendsOldest (λ l. l.retransmit) retransmit_duty (plain_same (λ l. l.retransmit) t.header slack plain)
+      (λ is as plain rest. ap (λ (o : Owed). o.retransmit) rest) place moment (Expires Rto) a
       (λ before after moment listener counts o is now at old. retransmit_begins before after moment listener counts o))
 
   -- and one of the persist timer by any segment
   pub probes_sent : says_sender t.header.version ≡ false → ProbesAreSent t w slack
   probes_sent plain place moment me a =
       subst (λ (m : ℕ). IsDoneBy t w place m me SendsAnything) (let e : moment + 0 + slack ≡ moment + slack = omega arith in e)
-      (arises me (λ o. o.probe) 0 SendsAnything (λ l. l.retransmit) probe_duty (plain_same (λ l. l.retransmit) t.header slack plain) place moment
-      (Expires Persist) a
+      (arises me (λ o. o.probe) 0 SendsAnything (λ l. l.retransmit) probe_duty (plain_same (λ l. l.retransmit) t.header slack plain)
+      (λ is as plain rest. ap (λ (o : Owed). o.probe) rest) place moment (Expires Persist) a
       (λ before after moment listener counts o is now at old. probe_begins before after moment listener counts o))
 
   -- work is begun
   pub work_begun : WorkIsBegun t w slack
   work_begun place moment me event a idle =
-      arises me (λ o. o.start) longest_wait IsNotIdle (λ l. l.start) start_duty (start_same t.header slack) place moment event a
+      arises me (λ o. o.start) longest_wait IsNotIdle (λ l. l.start) start_duty (start_same t.header slack)
+      (λ is as plain rest. ap (λ (o : Owed). o.start) rest) place moment event a
       (λ before after moment listener counts o is now at old. start_begins event before after moment listener counts o
       (ap is_idle_with_work now ∙ idle_is (seen_before t w (suc place) me) idle))

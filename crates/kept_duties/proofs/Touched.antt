@@ -24,7 +24,6 @@ use Rattle.case_forms.specs.declared.timer.Recovery.{Recovery}
 use Rattle.case_forms.specs.declared.trace.Header.{Header}
 use Rattle.case_forms.specs.declared.trace.Wire.{Wire}
 use Rattle.verdict.specs.declared.rule.Rule.{Rule}
-use Rattle.verdict.proofs.RuleLemmas.{none_all}
 use Rattle.spec_network.specs.HostRules.{Permitted, aim_of}
 use Rattle.spec_network.specs.HostSteps.{after, host_step_after, effect_after}
 use Rattle.spec_network.specs.Hosts.{HostState, Stamped, World, Does, Expires, Makes, Sends, Gets, Hears, Takes, Drops, Answers, Step, Begin, Finish, Effect}
@@ -66,6 +65,7 @@ use Rattle.spec_duties.specs.declared.observations.Queueing.TheVariants as queue
 use Rattle.spec_duties.specs.declared.observations.Observation.{Observation}
 use Rattle.spec_duties.specs.declared.observations.TouchedEndpoint.{TouchedEndpoint}
 use Rattle.spec_duties.specs.declared.views.View.{View}
+use Rattle.kept_duties.proofs.Excused.{but_acknowledge, judged_by, owed_seen}
 use Rattle.kept_duties.proofs.Judged.{IsSame}
 use Rattle.kept_duties.proofs.Runs.{Goes}
 
@@ -345,8 +345,11 @@ pub record Owes (h : Header) (slack : ℕ) (k next : Known) (x : Stamped tcp_sha
   pub resent : says_sender h.version ≡ false → is_resent h.congestion event (seen k.model me) (owed_by k.duties me.host me.number).again ≡ false
   pub beyond : says_sender h.version ≡ false → is_resent_beyond h.congestion event (seen k.model me) ≡ false
   pub excess : is_excess counts (owed_by k.duties me.host me.number).answers ≡ false
-  pub after : owed_by next.duties me.host me.number
+  -- the acknowledgment is as this event says in versions 1 to 5, all else in each version
+  pub after : says_sender h.version ≡ false → owed_by next.duties me.host me.number
       ≡ owed_after event (seen k.model me) (seen next.model me) x.moment listener counts (owed_by k.duties me.host me.number)
+  pub rest : but_acknowledge (owed_by next.duties me.host me.number)
+      ≡ but_acknowledge (owed_after event (seen k.model me) (seen next.model me) x.moment listener counts (owed_by k.duties me.host me.number))
 
 -- what is judged alike by the plain and the stricter duties isn't late by the plain ones
 pub lates_plain : (sel : Lates → Bool) (h : Header) (slack : ℕ) (k next : Known) (x : Stamped tcp_shape) (me : EndpointId) (event : Event)
@@ -364,7 +367,7 @@ module _ (h : Header) (slack : ℕ) (k next : Known) (x : Stamped tcp_shape) (me
   -- by the step's event at it
   pub owes_after : (event : Event) → shown.touched ≡ Some (touched k.model me event) → Owes h slack k next x me event
   owes_after event shows =
-      let rules = (none_all (duty_rules h slack x.moment k.duties (untrue_at h k x.step) shown) goes.dutiful).1.1.1.1 in
+      let rules = goes.dutiful.1.1.1.1 in
       let here =
       subst (λ (o : Option TouchedEndpoint). AllByRecursion (λ r. r.1 ≡ false)
       (on o (answer_rules slack x.moment k.duties (untrue_at h k x.step) shown.call_change)
@@ -385,17 +388,35 @@ module _ (h : Header) (slack : ℕ) (k next : Known) (x : Stamped tcp_shape) (me
         excess =
             first (is_excess counts (owed_by k.duties me.host me.number).answers)
             (sends_in_excess h slack k.duties (sent_by k.duties shown.built_change) (touched k.model me event)) here.1.1.1.1.1.1.1.1.0;
-        after =
-            ap (λ (d : Duties). owed_by d me.host me.number) goes.duties
-            ∙ ap (λ (o : Option TouchedEndpoint). owed_in (on o k.duties.owed (owed_table_after
-            (view_in (after (tcp h) x.moment k.model x.step) o) x.moment counts k.duties)) me) shows
-            ∙ owed_here k.duties.owed k.model me event _
-            ∙ ap (λ (w : World tcp_shape). owed_after event (seen k.model me) (seen w me) x.moment
-            (listener_closed k.duties me.host (seen k.model me)) counts (owed_by k.duties me.host me.number)) (sym goes.model);
+        after = λ old. now ∙ ap (λ (e : Event). owed_after e before next_view x.moment listener counts o) (goes.sees.plain old event);
+        rest =
+            ap but_acknowledge now
+            ∙ owed_seen event (goes.sees.judge event) (goes.sees.alike event) before next_view x.moment listener counts o;
       }
     where
       counts : Bool
       counts = counts_now (built_by k.duties shown.built_change)
+
+      before : View
+      before = seen k.model me
+
+      next_view : View
+      next_view = seen next.model me
+
+      listener : Option ℕ
+      listener = listener_closed k.duties me.host before
+
+      o : Owed
+      o = owed_by k.duties me.host me.number
+
+      -- by what duties see
+      now : owed_by next.duties me.host me.number ≡ owed_after (goes.sees.judge event) before next_view x.moment listener counts o
+      now =
+          ap (λ (x : Both (List (ℕ × Owed))). owed_in x me) goes.owed
+          ∙ ap (λ (o : Option TouchedEndpoint). owed_in (on (judged_by goes.sees.judge o) k.duties.owed (owed_table_after
+          (view_in (after (tcp h) x.moment k.model x.step) (judged_by goes.sees.judge o)) x.moment counts k.duties)) me) shows
+          ∙ owed_here k.duties.owed k.model me (goes.sees.judge event) _
+          ∙ ap (λ (w : World tcp_shape). owed_after (goes.sees.judge event) before (seen w me) x.moment listener counts o) (sym goes.model)
 
       first : (a b : Bool) → (a || b) ≡ false → a ≡ false
       first true b none = none
@@ -407,13 +428,14 @@ module _ (h : Header) (slack : ℕ) (k next : Known) (x : Stamped tcp_shape) (me
       × ((event : Event) → shown.touched ≡ Some (touched k.model me event) → ⊥))
   touches_or_not = by shown.touched refl (as_before h x.moment k.model x.step)
     where
-      keeps : (o : Option TouchedEndpoint) → shown.touched ≡ o → owed_in (on o k.duties.owed
-          (owed_table_after (view_in (after (tcp h) x.moment k.model x.step) o) x.moment
+      keeps : (o : Option TouchedEndpoint) → shown.touched ≡ o → owed_in (on (judged_by goes.sees.judge o) k.duties.owed
+          (owed_table_after (view_in (after (tcp h) x.moment k.model x.step) (judged_by goes.sees.judge o)) x.moment
           (counts_now (built_by k.duties shown.built_change)) k.duties)) me ≡ owed_in k.duties.owed me → owed_by next.duties me.host me.number
           ≡ owed_by k.duties me.host me.number
       keeps o shows same =
-          ap (λ (d : Duties). owed_by d me.host me.number) goes.duties
-          ∙ ap (λ (o : Option TouchedEndpoint). owed_in (on o k.duties.owed (owed_table_after (view_in (after (tcp h) x.moment k.model x.step) o) x.moment
+          ap (λ (x : Both (List (ℕ × Owed))). owed_in x me) goes.owed
+          ∙ ap (λ (o : Option TouchedEndpoint). owed_in (on (judged_by goes.sees.judge o) k.duties.owed
+          (owed_table_after (view_in (after (tcp h) x.moment k.model x.step) (judged_by goes.sees.judge o)) x.moment
           (counts_now (built_by k.duties shown.built_change)) k.duties)) me) shows
           ∙ same
 

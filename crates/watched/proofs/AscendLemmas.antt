@@ -30,9 +30,8 @@ use Rattle.spec_tcp_laws.specs.Ascending.{rule_number, ascend}
 use Rattle.spec_tcp_laws.proofs.Rules.{both_true, at_most_to}
 use Rattle.std.proofs.lemmas.Bool.Decides.{nat_tests}
 use Rattle.spec_duties.specs.declared.answering.CallChange.{CallChange}
-use Rattle.spec_duties.specs.Observations.{observe}
 use Rattle.spec_duties.specs.Watching.{answer_rules, built_by, counts_now, duty_rules, sent_by, touched_rules}
-use Rattle.spec_cases.specs.Cases.{Known, untrue_at, watch_rules}
+use Rattle.spec_cases.specs.Cases.{Known, shown, untrue_at, watch_rules}
 use Rattle.spec_duties.specs.declared.observations.Sampling.{Sampling}
 use Rattle.spec_duties.specs.declared.observations.Observation.{Observation}
 use Rattle.spec_duties.specs.declared.observations.TouchedEndpoint.{TouchedEndpoint}
@@ -130,7 +129,7 @@ rules_top h moment w (At host d) = tops_host_step h host moment (pick w.hosts (o
 
 -- the rules of duties ascend from 40 on
 pub watch_ascend : (h : Header) (moment : ℕ) (k : Known) (step : Step tcp_shape) → ascend 40 (watch_rules h moment k step) ≡ true
-watch_ascend h moment k step = by h.slack (observe h moment k.model step)
+watch_ascend h moment k step = by h.slack (shown h moment k step)
   where
     untrue : Bool
     untrue = untrue_at h k step

@@ -38,14 +38,16 @@ use Rattle.spec_duties.specs.declared.answering.CallChange.{CallChange}
 use Rattle.spec_duties.specs.Observations.{observe, observe_turn, unseen, view_in}
 use Rattle.spec_duties.specs.Watching.{Duties, duty_rules, duties_after}
 use Rattle.duties.proofs.SlackLemmas.{not_judging, refused_unjudged, unasked}
-use Rattle.spec_flights.specs.Flights.{Flights, flights_after, refusal}
+use Rattle.spec_flights.specs.Flights.{Flights, excused, flights_after, refusal}
 use Rattle.spec_cases.specs.Cases.{Known, after, asked_after, asked_rules, broken_by, forget, flown, case_rules, judged_rules}
-use Rattle.spec_cases.specs.Cases.{known_after, model_rules, noted_by, refused_at, refused_by, untrue_at, watch_rules, with_refusal, with_waits}
+use Rattle.spec_cases.specs.Cases.{known_after, model_rules, noted_by, refused_at, refused_by, shown, untrue_at, watch_rules, with_refusal}
+use Rattle.spec_cases.specs.Cases.{with_waits}
 use Rattle.spec_duties.specs.declared.answering.CallChange.TheVariants as call_change
 use Rattle.spec_duties.specs.declared.observations.Observation.{Observation}
 use Rattle.spec_duties.specs.declared.views.View.{View}
 use Rattle.watched.specs.Watched as watch
 use Rattle.watched.specs.Watched.{IsPlain, case_of, is_bare, known_of, least_broken}
+use Rattle.watched.proofs.ExcuseLemmas.{unexcused, view_excused}
 use Rattle.watched.proofs.ForgetLemmas.{observe-forget, view_in-forget}
 use Rattle.watched.proofs.RefusalLemmas.{not_refused, refused_among, refused_first}
 use Rattle.watched.proofs.UntrueLemmas.{untrue-forget}
@@ -76,13 +78,13 @@ flown-forget h moment w s fs = ap (λ v. flights_after h moment v s fs) (view_in
 kept_is : (h : Header) (w : World tcp_shape) (fs : Flights) (d : Duties) (steps moment : ℕ) (step : Step tcp_shape)
     → case_of (record { header = h; world = forgetting.forget (network.after (tcp h) moment w step); steps = suc steps })
     (flown h moment (forgetting.forget (network.after (tcp h) moment w step)) (observe h moment w step) fs)
-    (noted_by h moment (forgetting.forget (network.after (tcp h) moment w step)) (observe h moment w step) d)
+    (noted_by h moment (forgetting.forget (network.after (tcp h) moment w step)) (excused h fs (observe h moment w step)) d)
     ≡ after (record { header = h; world = record { model = w; flights = fs; duties = d }; steps = steps }) moment step
 kept_is h w fs d steps moment step =
-    ap (λ (gs : Flights). case_of now gs (noted_by h moment now.world (observe h moment w step) d))
+    ap (λ (gs : Flights). case_of now gs (noted_by h moment now.world (excused h fs (observe h moment w step)) d))
     (flown-forget h moment (network.after (tcp h) moment w step) (observe h moment w step) fs)
     ∙ ap (case_of now (flown h moment (network.after (tcp h) moment w step) (observe h moment w step) fs))
-    (noted-forget h moment (network.after (tcp h) moment w step) (observe h moment w step) d)
+    (noted-forget h moment (network.after (tcp h) moment w step) (excused h fs (observe h moment w step)) d)
   where
     now : Progress
     now = record { header = h; world = forgetting.forget (network.after (tcp h) moment w step); steps = suc steps }
@@ -117,9 +119,10 @@ rules-forget h moment k step =
     (refused-forget h moment k step)
     ∙ ap (λ (rs : List (Rule × Bool)). with_refusal (refused_by h moment k step) rs ++ watch_rules h moment (forget k) step)
     (step_rules-forget h moment k.model step)
-    ∙ ap (λ (b : Bool). model_rules h moment k step ++ judged_rules h moment k.duties b (observe h moment (forgetting.forget k.model) step))
+    ∙ ap (λ (b : Bool). model_rules h moment k step ++ judged_rules h moment k.duties b (shown h moment (forget k) step))
     (untrue-forget h k step)
-    ∙ ap (λ (s : Observation). model_rules h moment k step ++ judged_rules h moment k.duties (untrue_at h k step) s) (observe-forget h moment k.model step)
+    ∙ ap (λ (s : Observation). model_rules h moment k step ++ judged_rules h moment k.duties (untrue_at h k step) (excused h k.flights s))
+    (observe-forget h moment k.model step)
 
 -- if no rule is broken, nothing is refused, and the model permits the step
 pub not_refused_by : (h : Header) (moment : ℕ) (k : Known) (step : Step tcp_shape) → first_broken (model_rules h moment k step) ≡ None
@@ -148,20 +151,28 @@ known-forgets h moment k step none =
     let is = network.after (tcp h) moment k.model step in
     ap (λ (w : World tcp_shape). all w was (observe h moment (forget k).model step)) world
     ∙ ap (λ (s : Observation). all (forgetting.forget is) was s) (observe-forget h moment k.model step)
-    ∙ ap (λ (gs : Flights). triple gs (noted_by h moment was now k.duties))
+    ∙ ap (λ (gs : Flights). triple gs (noted_by h moment was eyes k.duties))
     (sym (flown-forget h moment was now k.flights)
     ∙ ap (λ (w : World tcp_shape). flown h moment w now k.flights) world
     ∙ flown-forget h moment is now k.flights)
     ∙ ap (triple (flown h moment is now k.flights)) (
-    sym (noted-forget h moment was now k.duties)
-    ∙ ap (λ (w : World tcp_shape). noted_by h moment w now k.duties) world
-    ∙ noted-forget h moment is now k.duties)
+    sym (noted-forget h moment was eyes k.duties)
+    ∙ ap (λ (w : World tcp_shape). noted_by h moment w eyes k.duties) world
+    ∙ noted-forget h moment is eyes k.duties)
   where
     now : Observation
     now = observe h moment k.model step
 
+    -- what duties see
+    eyes : Observation
+    eyes = excused h k.flights now
+
     all : (kept was : World tcp_shape) → Observation → Known
-    all w was s = record { model = w; flights = flown h moment was s k.flights; duties = noted_by h moment was s k.duties }
+    all w was s = record {
+      model = w;
+      flights = flown h moment was s k.flights;
+      duties = noted_by h moment was (excused h k.flights s) k.duties;
+    }
 
     triple : Flights → Duties → Known
     triple gs d = record { model = forgetting.forget (network.after (tcp h) moment k.model step); flights = gs; duties = d }
@@ -206,8 +217,18 @@ module _ (p : Progress) (fs : Flights) (d : Duties) (moment : ℕ) (step : Step 
   abbrev seen : Observation
   seen = observe p.header moment p.world step
 
+  -- what duties see of it
+  abbrev told : Observation
+  told = shown p.header moment known step
+
+  -- the endpoint is the same
+  pub told_view : (s t : Observation) (w : World tcp_shape) → s ≡ seen → t ≡ told → view_in w s.touched ≡ view_in w t.touched
+  told_view s t w sees tells =
+      ap (λ (s : Observation). view_in w s.touched) sees
+      ∙ sym (view_excused p.header fs seen w) ∙ sym (ap (λ (s : Observation). view_in w s.touched) tells)
+
   -- what was judged: the rules of duties at what they watch of that step
-  judged_later : (u : Progress) (untrue : Bool) (s : Observation) → untrue ≡ untrue_at p.header known step → u ≡ model_after p moment step → s ≡ seen
+  judged_later : (u : Progress) (untrue : Bool) (s : Observation) → untrue ≡ untrue_at p.header known step → u ≡ model_after p moment step → s ≡ told
       → first_broken (judged_rules u.header moment d untrue s) ≡ first_broken (watch_rules p.header moment known step)
   judged_later u untrue s asks is sees =
       ap (λ (b : Bool). first_broken (judged_rules u.header moment d b s)) asks
@@ -216,7 +237,7 @@ module _ (p : Progress) (fs : Flights) (d : Duties) (moment : ℕ) (step : Step 
 
   pub step_admits : {A : Type 0} (r : Result A StepFault) (u : Progress) (untrue : Bool) (s : Observation) (refusal : Option Rule)
       → untrue ≡ untrue_at p.header known step → refusal ≡ refused_by p.header moment known step
-      → refusal ≡ None → first_broken model ≡ None → u ≡ model_after p moment step → s ≡ seen
+      → refusal ≡ None → first_broken model ≡ None → u ≡ model_after p moment step → s ≡ told
       → OnOk r (first_broken (judged_rules u.header moment d untrue s) ≡ None) → OnOk r (broken_by (case_of p fs d) moment step ≡ None)
   step_admits r u untrue s refusal asks refused none may is sees e =
       duty_admits r (model_rules p.header moment known step) (watch_rules p.header moment known step)
@@ -225,7 +246,7 @@ module _ (p : Progress) (fs : Flights) (d : Duties) (moment : ℕ) (step : Step 
 
   pub step_breaks : {A : Type 0} (r : Result A StepFault) (u : Progress) (untrue : Bool) (s : Observation) (refusal : Option Rule)
       → untrue ≡ untrue_at p.header known step → refusal ≡ refused_by p.header moment known step
-      → refusal ≡ None → first_broken model ≡ None → u ≡ model_after p moment step → s ≡ seen
+      → refusal ≡ None → first_broken model ≡ None → u ≡ model_after p moment step → s ≡ told
       → IfErr r (λ fault. IfBroken fault (λ rule. first_broken (judged_rules u.header moment d untrue s) ≡ Some rule))
       → IfErr r (λ fault. IfBroken fault (λ rule. broken_by (case_of p fs d) moment step ≡ Some rule))
   step_breaks r u untrue s refusal asks refused none may is sees e =
@@ -234,15 +255,16 @@ module _ (p : Progress) (fs : Flights) (d : Duties) (moment : ℕ) (step : Step 
       (judged_later u untrue s asks is sees) e
 
   -- the case after a step that was noted
-  pub step_is : {A : Type 0} (r : Result A StepFault) (u : Progress) (s : Observation) (gs : Flights) (e : Duties)
-      → u ≡ model_after p moment step → s ≡ seen → gs ≡ flown u.header moment u.world s fs
-      → OnOk r (e ≡ noted_by u.header moment u.world s d) → OnOk r (case_of u gs e ≡ after (case_of p fs d) moment step)
-  step_is (Err fault) u s gs e is sees flies notes = tt
-  step_is (Ok x) u s gs e is sees flies notes =
+  pub step_is : {A : Type 0} (r : Result A StepFault) (u : Progress) (s t : Observation) (gs : Flights) (e : Duties)
+      → u ≡ model_after p moment step → s ≡ seen → t ≡ told → gs ≡ flown u.header moment u.world s fs
+      → OnOk r (e ≡ noted_by u.header moment u.world t d) → OnOk r (case_of u gs e ≡ after (case_of p fs d) moment step)
+  step_is (Err fault) u s t gs e is sees tells flies notes = tt
+  step_is (Ok x) u s t gs e is sees tells flies notes =
       ap (λ (gs : Flights). case_of u gs e) flies
       ∙ ap (case_of u (flown u.header moment u.world s fs)) notes
-      ∙ ap (λ (s : Observation). case_of u (flown u.header moment u.world s fs) (noted_by u.header moment u.world s d)) sees
-      ∙ ap (λ (u : Progress). case_of u (flown u.header moment u.world seen fs) (noted_by u.header moment u.world seen d)) is
+      ∙ ap (λ (s : Observation). case_of u (flown u.header moment u.world s fs) (noted_by u.header moment u.world t d)) sees
+      ∙ ap (λ (t : Observation). case_of u (flown u.header moment u.world seen fs) (noted_by u.header moment u.world t d)) tells
+      ∙ ap (λ (u : Progress). case_of u (flown u.header moment u.world seen fs) (noted_by u.header moment u.world told d)) is
       ∙ kept_is p.header p.world fs d p.steps moment step
 
   first_is : (rule : Rule) → Some rule ≡ refused_by p.header moment known step
@@ -335,8 +357,10 @@ plain_rules p fs d moment (Some step) is =
     ap (λ (o : Option Rule). first_broken (with_refusal o model ++ watch_rules p.header moment (known_of p fs d) step))
     (refused_unjudged p.header moment (known_of p fs d) step (not_judging p.header is.0))
     ∙ first_broken-then_none model (watch_rules p.header moment (known_of p fs d) step)
-    (ap (λ (b : Bool). first_broken (judged_rules p.header moment d b (observe p.header moment p.world step)))
+    (ap (λ (b : Bool). first_broken (judged_rules p.header moment d b (shown p.header moment (known_of p fs d) step)))
     (unasked p.header (known_of p fs d) step is.0)
+    ∙ ap (λ (s : Observation). first_broken (judged_rules p.header moment d false s))
+    (unexcused p.header fs (observe p.header moment p.world step) is.0)
     ∙ nothing_judged p.header moment p.world d step is.1)
 
 pub plain_line_admits : {A : Type 0} (r : Result A StepFault) (p : Progress) (fs : Flights) (d : Duties) (moment : ℕ) (asked : Option (Step tcp_shape))
@@ -369,6 +393,10 @@ plain_line_is (Ok x) p u fs d moment (Some step) plain is =
     (sym (flown_before p.header moment (network.after (tcp p.header) moment p.world step) (observe p.header moment p.world step) fs plain.0))
     ∙ ap (case_of now (flown p.header moment (network.after (tcp p.header) moment p.world step) (observe p.header moment p.world step) fs))
     (sym (nothing_kept p.header moment p.world (network.after (tcp p.header) moment p.world step) d step plain.1))
+    ∙ ap (λ (s : Observation). case_of now
+    (flown p.header moment (network.after (tcp p.header) moment p.world step) (observe p.header moment p.world step) fs)
+    (noted_by p.header moment (network.after (tcp p.header) moment p.world step) s d))
+    (sym (unexcused p.header fs (observe p.header moment p.world step) plain.0))
   where
     now : Progress
     now = model_after p moment step

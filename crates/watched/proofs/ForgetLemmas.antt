@@ -50,6 +50,7 @@ use Rattle.spec_duties.specs.declared.owed.Lates.{Lates}
 use Rattle.spec_duties.specs.declared.views.View.{View}
 use Rattle.spec_duties.specs.Dropped.{bare, droppable_by, discards_at, earns_by_dropping, earns_by_taking, is_old, taking_breaks, answering_breaks}
 use Rattle.spec_duties.specs.Sampling.{may_measure, sampling_at}
+use Rattle.spec_duties.specs.Arrivals.{arrival_at, stamps_read}
 use Rattle.spec_duties.specs.Blocks.{blocks_taken}
 use Rattle.spec_duties.specs.Observations.{syn_dropped, syn_sent, syn_taken}
 use Rattle.spec_duties.specs.Observations.{observe, observe_host_step, at_place, at_ports, at_next, at_sender, at_target, at_drop, unseen}
@@ -149,6 +150,11 @@ blocks-forget h m Nobody = refl
 blocks-forget h m (AtListener l) = refl
 blocks-forget h m (AtEndpoint i e) = rw (read-forget h e m, snd_max-forget e) refl
 
+arrival-forget : (h : Header) (m : Emission) (t : Taker) → arrival_at h.version m (forget_taker t) ≡ arrival_at h.version m t
+arrival-forget h m Nobody = refl
+arrival-forget h m (AtListener l) = refl
+arrival-forget h m (AtEndpoint i e) = rw (read-forget h e m) refl
+
 sender-seen : (host : Host) (b : HostTcp) (wire : Wire) (m : Emission) → at_sender host (forget_body b) wire m ≡ at_sender host b wire m
 sender-seen host b wire m = rw (place-seen host b (sending_of wire m) m.sender.number) refl
 
@@ -167,7 +173,12 @@ host_step-seen h moment w fresh host s (network.Makes m) = rw (ports-seen host s
 host_step-seen h moment w fresh host s (network.Sends line number wire) = by (lookup (nat_eq number) s.made)
   where
     see : Emission → Option TouchedEndpoint → Observation
-    see m t = record unseen { touched = t; built_change = Sends number; syn_change = syn_sent h.version m wire.bytes }
+    see m t = record unseen {
+      touched = t;
+      built_change = Sends number;
+      syn_change = syn_sent h.version m wire.bytes;
+      stamps = stamps_read h.version wire.bytes;
+    }
 
     by : (o : Option (Made Emission))
         → on o unseen (λ m. see m.emission (at_sender host (forget_body s.body) wire m.emission))
@@ -193,6 +204,7 @@ host_step-seen h moment w fresh host s (network.Takes line how) = by (waiting li
           syn-forget h.version m (taker s.body m),
           blocks-forget h m (taker s.body m),
           kept-forget h how m (taker s.body m),
+          arrival-forget h m (taker s.body m),
         ) refl
 host_step-seen h moment w fresh host s (network.Drops line) =
     rw (taking-forget h moment w host line, answering-forget h w host line) (by (waiting line s.inbox))
@@ -210,6 +222,7 @@ host_step-seen h moment w fresh host s (network.Drops line) =
           drop-seen h.version host s.body m (taking_breaks h moment w host line) (taker s.body m),
           earning_drop-forget h.version m (taking_breaks h moment w host line) (taker s.body m),
           syn_drop-forget h.version m (taker s.body m),
+          arrival-forget h m (taker s.body m),
         ) refl
 host_step-seen h moment w fresh host s (network.Answers line) = refl
 

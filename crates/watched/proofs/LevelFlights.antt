@@ -41,6 +41,7 @@ use Rattle.spec_duties.specs.declared.observations.SynChange.TheVariants as syn
 use Rattle.spec_duties.specs.declared.observations.TouchedEndpoint.{TouchedEndpoint}
 use Rattle.spec_duties.specs.Views.{view_of}
 use Rattle.spec_duties.specs.declared.views.View.{View}
+use Rattle.spec_flights.specs.Clocks.{Clocks, clocks_after, clocks_told, most_after, told_after}
 use Rattle.spec_flights.specs.Delivered.{read_reports, without_reports}
 use Rattle.spec_flights.specs.Flights.{Flight, Flights, board_after, broken_at, flight_after, flight_at, flight_by, flights_touched, may_begin}
 use Rattle.spec_flights.specs.Flights.{marks_oldest, may_be_probed, may_go_again, refusal, rescued_after}
@@ -53,6 +54,7 @@ use Rattle.spec_flights.specs.declared.probing.Probing.{Probing}
 use Rattle.spec_flights.specs.Recovering.{is_recovering, recovery_after}
 use Rattle.spec_flights.specs.Scoreboard.{number_built, Scoreboard}
 use Rattle.spec_flights.specs.Sides.{sides_after}
+use Rattle.spec_flights.specs.Undoing.{Undoing, undoing_after}
 use Rattle.spec_flights.specs.declared.recovery.Recovery.{Recovery}
 use Rattle.spec_flights.specs.declared.reports.Reports.{Reports}
 use Rattle.spec_flights.specs.declared.sides.Sides.{Sides}
@@ -178,6 +180,36 @@ probing_same moment (Expires Pto) a b before after p = refl
 probing_same moment (Recovers Begins) a b before after p = refl
 probing_same moment (Recovers IsUndone) a b before after p = ap (λ (x : Probe). record { probe = x; quiet = p.quiet }) (probe_same b after p.probe)
 
+undoing_same : (s : Observation) (event : Event) (a b : ℕ) (before after : View) (sides : Sides) (c : Recovery) (r : Reports) (x : Scoreboard) (u : Undoing)
+    → undoing_after (observed_with a s) event (view_with a before) (view_with b after) sides c r x u ≡ undoing_after s event before after sides c r x u
+undoing_same s Opens a b before after sides c r x u = refl
+undoing_same s (Calls abort) a b before after sides c r x u = refl
+undoing_same s (Processes length rst) a b before after sides c r x u = refl
+undoing_same s (Drops asks unlimited) a b before after sides c r x u = refl
+undoing_same s (Builds m) a b before after sides c r x u = refl
+undoing_same s (Sends sent) a b before after sides c r x u = refl
+undoing_same s (Expires Rto) a b before after sides c r x u = refl
+undoing_same s (Expires Persist) a b before after sides c r x u = refl
+undoing_same s (Expires Msl2) a b before after sides c r x u = refl
+undoing_same s (Expires Giveup) a b before after sides c r x u = refl
+undoing_same s (Expires Pto) a b before after sides c r x u = refl
+undoing_same s (Recovers change) a b before after sides c r x u = refl
+
+told_same : (event : Event) (b : ℕ) (after : View) (told : ℕ) → told_after event (view_with b after) told ≡ told_after event after told
+told_same Opens b after told = refl
+told_same (Calls abort) b after told = refl
+told_same (Processes length rst) b after told = refl
+told_same (Drops asks unlimited) b after told = refl
+told_same (Builds m) b after told = refl
+told_same (Sends s) b after told = refl
+told_same (Expires timer) b after told = refl
+told_same (Recovers change) b after told = refl
+
+clocks_same : (s : Observation) (event : Event) (a b : ℕ) (after : View) (c : Clocks)
+    → clocks_after (observed_with a s) event (view_with b after) c ≡ clocks_after s event after c
+clocks_same s event a b after c =
+    ap (λ (n : ℕ). clocks_told s.syn_change s.stamps (record c { most = most_after s.arrival s.stamps c; told = n })) (told_same event b after c.told)
+
 marks_same : (change : SynChange) (event : Event) (a b : ℕ) (before after : View) (r : Reports) (oldest : Bool) (marks : List ℕ)
     → marks_after change event (view_with a before) (view_with b after) r oldest marks ≡ marks_after change event before after r oldest marks
 marks_same change event a b before after r oldest marks =
@@ -195,13 +227,19 @@ flight_same : (moment clock : ℕ) (s : Observation) (t : TouchedEndpoint) (a b 
 flight_same moment clock s t a b after f =
     ap (λ (r : Recovery). flight_by moment clock (observed_with a s) (touched_with a t) (view_with b after) sides r f)
     (recovery_same t.event b after f.recovery)
-    ∙ ap (λ (oldest : Bool). with (marks (view_with a t.before) (view_with b after) oldest) board rescued probing)
+    ∙ ap (λ (oldest : Bool). with (marks (view_with a t.before) (view_with b after) oldest) board rescued probing undoing clocks)
     (oldest_same clock t.event a b t.before after sides now f)
-    ∙ ap (λ (ms : List ℕ). with ms board rescued probing)
+    ∙ ap (λ (ms : List ℕ). with ms board rescued probing undoing clocks)
     (marks_same s.syn_change t.event a b t.before after reports (marks_oldest clock t.event t.before after sides now f) f.marks)
-    ∙ ap (λ (x : Scoreboard). with kept x rescued probing) (board_same moment clock recovers number t.event a b t.before after reports f.board)
-    ∙ ap (λ (used : Bool). with kept held used probing) (rescued_same clock t.event a t.before f)
-    ∙ ap (with kept held (rescued_after clock t.event t.before f)) (probing_same moment t.event a b t.before after f.probing)
+    ∙ ap (λ (x : Scoreboard). with kept x rescued probing undoing clocks) (board_same moment clock recovers number t.event a b t.before after reports f.board)
+    ∙ ap (λ (used : Bool). with kept held used probing undoing clocks) (rescued_same clock t.event a t.before f)
+    ∙ ap (λ (p : Probing). with kept held (rescued_after clock t.event t.before f) p undoing clocks)
+    (probing_same moment t.event a b t.before after f.probing)
+    ∙ ap (λ (u : Undoing). with kept held (rescued_after clock t.event t.before f) (probing_after moment t.event t.before after f.probing) u clocks)
+    (undoing_same s t.event a b t.before after sides f.recovery reports f.board f.undoing)
+    ∙ ap (with kept held (rescued_after clock t.event t.before f) (probing_after moment t.event t.before after f.probing)
+    (undoing_after s t.event t.before after sides f.recovery reports f.board f.undoing))
+    (clocks_same s t.event a b after f.clocks)
   where
     sides : Sides
     sides = sides_after s.syn_change f.sides
@@ -233,17 +271,26 @@ flight_same moment clock s t a b after f =
     probing : Probing
     probing = probing_after moment t.event (view_with a t.before) (view_with b after) f.probing
 
+    undoing : Undoing
+    undoing =
+        undoing_after (observed_with a s) t.event (view_with a t.before) (view_with b after) sides f.recovery reports f.board f.undoing
+
+    clocks : Clocks
+    clocks = clocks_after (observed_with a s) t.event (view_with b after) f.clocks
+
     held : Scoreboard
     held = board_after moment clock recovers number t.event t.before after reports f.board
 
-    with : List ℕ → Scoreboard → Bool → Probing → Flight
-    with ms x used p = record {
+    with : List ℕ → Scoreboard → Bool → Probing → Undoing → Clocks → Flight
+    with ms x used p u c = record {
       sides = sides;
       recovery = now;
       marks = ms;
       board = x;
       rescued = used;
       probing = p;
+      undoing = u;
+      clocks = c;
       held = held_after s.kept after.rcv_nxt f.held;
     }
 

@@ -50,6 +50,7 @@ use Rattle.spec_tcp_laws.proofs.JudgedRules.{MayJudge}
 use Rattle.spec_tcp_laws.proofs.JudgedWorlds.{aim_same, may_judge}
 use Rattle.spec_duties.specs.Dropped.{answering_breaks, bare, discards_at, droppable_by, earns_by_dropping, earns_by_taking, is_old, taking_breaks}
 use Rattle.spec_duties.specs.Sampling.{sampling_at}
+use Rattle.spec_duties.specs.Arrivals.{arrival_at, stamps_read}
 use Rattle.spec_duties.specs.Blocks.{blocks_taken}
 use Rattle.spec_duties.specs.Kept.{kept_at}
 use Rattle.spec_duties.specs.Observations.{syn_dropped, syn_sent, syn_taken}
@@ -231,6 +232,11 @@ kept_same p v how m Nobody = refl
 kept_same p v how m (AtListener l) = refl
 kept_same p v how m (AtEndpoint i e) = refl
 
+arrival_same : (p : Profile) (v : Version) (m : Emission) (t : Taker) → arrival_at v m (taker_by p t) ≡ arrival_at v m t
+arrival_same p v m Nobody = refl
+arrival_same p v m (AtListener l) = refl
+arrival_same p v m (AtEndpoint i e) = refl
+
 syn_drop_same : (p : Profile) (v : Version) (m : Emission) (t : Taker) → syn_dropped v m (taker_by p t) ≡ syn_dropped v m t
 syn_drop_same p v m Nobody = refl
 syn_drop_same p v m (AtListener l) = refl
@@ -268,7 +274,12 @@ host_step_seen p j h moment w fresh host s (network.Makes m) may =
 host_step_seen p j h moment w fresh host s (network.Sends line number wire) may = by (lookup (nat_eq number) s.made)
   where
     see : Emission → Option TouchedEndpoint → Observation
-    see m t = record unseen { touched = t; built_change = Sends number; syn_change = syn_sent h.version m wire.bytes }
+    see m t = record unseen {
+      touched = t;
+      built_change = Sends number;
+      syn_change = syn_sent h.version m wire.bytes;
+      stamps = stamps_read h.version wire.bytes;
+    }
 
     by : (o : Option (Made Emission))
         → ShowsHigher (on o unseen (λ m. see m.emission (at_sender host s.body wire m.emission)))
@@ -296,6 +307,7 @@ host_step_seen p j h moment w fresh host s (network.Takes line how) may = by (wa
           syn_same p h.version m (taker s.body m),
           blocks_same p h.version m (taker s.body m),
           kept_same p h.version how m (taker s.body m),
+          arrival_same p h.version m (taker s.body m),
         )
         (shown (see s.body m (taker s.body m)) _ (target_seen p host s.body m (taker s.body m) may))
 host_step_seen p j h moment w fresh host s (network.Drops line) may =
@@ -318,6 +330,7 @@ host_step_seen p j h moment w fresh host s (network.Drops line) may =
           old_same p h.version m (taker s.body m),
           earning_drop_same p h.version m taking (taker s.body m),
           syn_drop_same p h.version m (taker s.body m),
+          arrival_same p h.version m (taker s.body m),
         )
         (shown (observe_dropping h.version host s.body line taking answering m (taker s.body m)) _
         (drop_seen p h.version host s.body m taking (taker s.body m) may))

@@ -29,7 +29,7 @@ use Rattle.duties.proofs.SlackLemmas.{AreFewer, fewer_none}
 use Rattle.spec_duties.specs.Answering.{Waits, any_call, is_unanswered_late, waits_after}
 use Rattle.spec_duties.specs.declared.answering.CallChange.{CallChange}
 use Rattle.spec_cases.specs.Cases.{Dutiful, Known, flown, judged_rules, known_after, known_after_all, late_at_end, model_rules, noted_by}
-use Rattle.spec_cases.specs.Cases.{untrue_at, watch_rules}
+use Rattle.spec_cases.specs.Cases.{shown, untrue_at, watch_rules}
 use Rattle.spec_duties.specs.End.{any_unsent, either, first_waiting, is_brought_late, is_send_late, lates_at, lates_from, lates_of_all, lates_of_host, line_of}
 use Rattle.spec_duties.specs.declared.events.Event.{Event}
 use Rattle.spec_duties.specs.declared.events.Event.TheVariants.{Builds, Calls, Drops, Expires, Opens, Processes, Recovers, Sends}
@@ -51,8 +51,9 @@ use Rattle.spec_duties.specs.declared.observations.BuiltChange.{BuiltChange}
 use Rattle.spec_duties.specs.declared.observations.BuiltChange.TheVariants as built_change
 use Rattle.spec_duties.specs.declared.tables.Built.{Built}
 use Rattle.spec_duties.specs.declared.views.View.{View}
-use Rattle.spec_flights.specs.Flights.{Flights}
+use Rattle.spec_flights.specs.Flights.{Flights, excused}
 use Rattle.watched.specs.Levels.{CaseJudgedAlike, EndsBelow, known_judged, observed_with, remaining, touched_with, view_with}
+use Rattle.watched.proofs.ExcuseLemmas.{ends_excused, excused_with}
 use Rattle.watched.proofs.LevelFlights.{flown_same, model_alike, refused_less, remaining_both, repeats_less}
 use Rattle.watched.proofs.LevelObservations.{shows_the_same, view_seen}
 use Rattle.watched.proofs.UntrueLemmas.{untrue_judged}
@@ -300,14 +301,23 @@ rules_fewer j h moment d edge untrue s (Some slack) le higher e =
 
 -- ---- a step of a case
 
+-- what duties see of it
+shown_with : (j : Judged) (h : Header) (moment : ℕ) (k : Known) (step : Step tcp_shape) (edge : ℕ)
+    → observe (header_by j h) moment (world_judged j h k.model) step ≡ observed_with edge (observe h moment k.model step)
+    → shown (header_by j h) moment (known_judged j h k) step ≡ observed_with edge (shown h moment k step)
+shown_with j h moment k step edge same =
+    ap (λ (s : Observation). excused (header_by j h) k.flights s) same ∙ excused_with h k.flights edge (observe h moment k.model step)
+
 watch_passes : (j : Judged) (h : Header) (moment : ℕ) (k : Known) (step : Step tcp_shape) → extent j ≤ extent h.congestion → IsJudged h k.model
     → first_broken (watch_rules h moment k step) ≡ None → first_broken (watch_rules (header_by j h) moment (known_judged j h k) step) ≡ None
 watch_passes j h moment k step le is e =
     let seen = shows_the_same j h moment k.model step le is in
-    ap (λ (b : Bool). first_broken (judged_rules (header_by j h) moment k.duties b (observe (header_by j h) moment (world_judged j h k.model) step)))
+    ap (λ (b : Bool). first_broken (judged_rules (header_by j h) moment k.duties b (shown (header_by j h) moment (known_judged j h k) step)))
     (untrue_judged j h k step)
-    ∙ ap (λ (s : Observation). first_broken (judged_rules (header_by j h) moment k.duties (untrue_at h k step) s)) seen.1
-    ∙ rules_fewer j h moment k.duties seen.0 (untrue_at h k step) (observe h moment k.model step) h.slack le seen.2 e
+    ∙ ap (λ (s : Observation). first_broken (judged_rules (header_by j h) moment k.duties (untrue_at h k step) s))
+    (shown_with j h moment k step seen.0 seen.1)
+    ∙ rules_fewer j h moment k.duties seen.0 (untrue_at h k step) (shown h moment k step) h.slack le
+    (ends_excused h k.flights seen.0 (observe h moment k.model step) seen.2) e
 
 -- of the other rules, it breaks the same
 others_both : (xs ys : List (Rule × Bool)) → other_rules (xs ++ ys) ≡ other_rules xs ++ other_rules ys
@@ -344,10 +354,11 @@ case_alike j h moment k step le is =
     ∙ ap (λ (xs : List (Rule × Bool)). xs ++ remaining h.version (other_rules (watch_rules (header_by j h) moment (known_judged j h k) step)))
     (model_alike j h moment k step le is (step_alike (profile_of (header_by j h)) j h moment k.model step))
     ∙ ap (λ (xs : List (Rule × Bool)). remaining h.version (other_rules (model_rules h moment k step)) ++ remaining h.version xs)
-    (ap (λ (b : Bool). other_rules (judged_rules (header_by j h) moment k.duties b (observe (header_by j h) moment (world_judged j h k.model) step)))
+    (ap (λ (b : Bool). other_rules (judged_rules (header_by j h) moment k.duties b (shown (header_by j h) moment (known_judged j h k) step)))
     (untrue_judged j h k step)
-    ∙ ap (λ (s : Observation). other_rules (judged_rules (header_by j h) moment k.duties (untrue_at h k step) s)) seen.1
-    ∙ duties_alike j h moment k.duties seen.0 (untrue_at h k step) (observe h moment k.model step))
+    ∙ ap (λ (s : Observation). other_rules (judged_rules (header_by j h) moment k.duties (untrue_at h k step) s))
+    (shown_with j h moment k step seen.0 seen.1)
+    ∙ duties_alike j h moment k.duties seen.0 (untrue_at h k step) (shown h moment k step))
     ∙ sym (remaining_both h.version (other_rules (model_rules h moment k step)) (other_rules (watch_rules h moment k step)))
     ∙ sym (ap (remaining h.version) (others_both (model_rules h moment k step) (watch_rules h moment k step)))
 
@@ -386,12 +397,15 @@ known_kept : (j : Judged) (h : Header) (moment : ℕ) (k : Known) (step : Step t
 known_kept j h moment k step le is =
     let seen = shows_the_same j h moment k.model step le is in
     let world = after_kept j h moment k.model step in
-    ap (λ (s : Observation). known (after (tcp (header_by j h)) moment (world_judged j h k.model) step) s) seen.1
-    ∙ ap (λ (w : World tcp_shape). known w (observed_with seen.0 (observe h moment k.model step))) world
-    ∙ ap (λ (fs : Flights). triple fs (noted_by (header_by j h) moment (world_judged j h now) (observed_with seen.0 (observe h moment k.model step)) k.duties))
+    ap (λ (s : Observation). known (after (tcp (header_by j h)) moment (world_judged j h k.model) step) s
+    (shown (header_by j h) moment (known_judged j h k) step)) seen.1
+    ∙ ap (λ (w : World tcp_shape). known w (observed_with seen.0 (observe h moment k.model step)) (shown (header_by j h) moment (known_judged j h k) step))
+    world
+    ∙ ap (λ (fs : Flights). triple fs (noted_by (header_by j h) moment (world_judged j h now) (shown (header_by j h) moment (known_judged j h k) step) k.duties))
     (flown_same j h moment now seen.0 (observe h moment k.model step) k.flights)
-    ∙ ap (triple (flown h moment now (observe h moment k.model step) k.flights))
-    (noted_same j h moment now seen.0 (observe h moment k.model step) k.duties)
+    ∙ ap (triple (flown h moment now (observe h moment k.model step) k.flights)) (
+    ap (λ (s : Observation). noted_by (header_by j h) moment (world_judged j h now) s k.duties) (shown_with j h moment k step seen.0 seen.1)
+    ∙ noted_same j h moment now seen.0 (shown h moment k step) k.duties)
   where
     now : World tcp_shape
     now = after (tcp h) moment k.model step
@@ -399,8 +413,12 @@ known_kept j h moment k step le is =
     triple : Flights → Duties → Known
     triple fs d = record { model = world_judged j h now; flights = fs; duties = d }
 
-    known : World tcp_shape → Observation → Known
-    known w s = record { model = w; flights = flown (header_by j h) moment w s k.flights; duties = noted_by (header_by j h) moment w s k.duties }
+    known : World tcp_shape → (s eyes : Observation) → Known
+    known w s eyes = record {
+      model = w;
+      flights = flown (header_by j h) moment w s k.flights;
+      duties = noted_by (header_by j h) moment w eyes k.duties;
+    }
 
 -- ---- a run, and its end
 

@@ -3,6 +3,7 @@ mod BlockLemmas
 mod CallLemmas
 pub mod CaseLemmas
 mod EndLemmas
+mod ExcuseLemmas
 pub mod UntrueLemmas
 pub mod ForgetLemmas
 mod PlaceLemmas

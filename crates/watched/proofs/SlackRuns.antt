@@ -12,8 +12,8 @@ use Rattle.spec_network.specs.Tables.{pick}
 use Rattle.spec_tcp.specs.Machine.{tcp, tcp_shape}
 use Rattle.duties.proofs.SlackLemmas.{late_any, less_late, nothing_judged, slack_is_hardly_noted, truly_reported}
 use Rattle.spec_cases.specs.Cases.{Dutiful, Known, first_known, flown, judged_rules, known_after, known_after_all, late_at_end, noted_by, refused_at}
-use Rattle.spec_cases.specs.Cases.{refused_by, untrue_at, untrue_by, untrue_sent, watch_rules}
-use Rattle.spec_flights.specs.Flights.{Flights, refusal}
+use Rattle.spec_cases.specs.Cases.{refused_by, shown, untrue_at, untrue_by, untrue_sent, watch_rules}
+use Rattle.spec_flights.specs.Flights.{Flights, excused, refusal}
 use Rattle.spec_duties.specs.Observations.{observe}
 use Rattle.spec_cases.specs.Slack.{AreInOrder, AtMost, HasMoreCredits, credits_left, with_slack}
 use Rattle.spec_duties.specs.Watching.{Duties}
@@ -47,6 +47,11 @@ module _ (x y : Option ℕ) (h : Header) where
   seen moment few many step same =
       ap (λ (w : World tcp_shape). observe two moment w step) same.model
       ∙ observed_same y h moment few.model step ∙ sym (observed_same x h moment few.model step)
+
+  seen_by_duties : (moment : ℕ) (few many : Known) (step : Step tcp_shape) → IsSame few many → shown two moment many step ≡ shown one moment few step
+  seen_by_duties moment few many step same =
+      ap (λ (fs : Flights). excused two fs (observe two moment many.model step)) same.flights
+      ∙ ap (λ (s : Observation). excused two few.flights s) (seen moment few many step same)
 
   world : (moment : ℕ) (few many : Known) (step : Step tcp_shape) → IsSame few many
       → after (tcp two) moment many.model step ≡ after (tcp one) moment few.model step
@@ -116,11 +121,11 @@ dutiful_none x h few many (s ∷ xs) same kept = (
     duties =
         ap first_broken
         (nothing_judged (with_slack None h) s.moment many.duties (untrue_at (with_slack None h) many s.step)
-        (observe (with_slack None h) s.moment many.model s.step) refl)
+        (shown (with_slack None h) s.moment many s.step) refl)
         ∙ ap (λ (b : Bool). first_broken ((rules.SackUntrue, b) ∷ []))
         (untrue_too x None h few many s.step same
         ∙ truly_reported (with_slack x h) s.moment few.duties (untrue_at (with_slack x h) few s.step)
-        (observe (with_slack x h) s.moment few.model s.step) kept.0.duties);
+        (shown (with_slack x h) s.moment few s.step) kept.0.duties);
     flights = refused x None h s.moment few many s.step same ∙ kept.0.flights;
   },
   dutiful_none x h (known_after (with_slack x h) s.moment few s.step) (known_after (with_slack None h) s.moment many s.step) xs
@@ -144,30 +149,30 @@ module _ (less more : ℕ) (le : less ≤ more) (h : Header) where
       → first_broken (watch_rules b moment many step) ≡ None
   watch_passes moment few many step alike e =
       ap (λ (s : Observation). first_broken (judged_rules b moment many.duties (untrue_at b many step) s))
-      (seen (Some less) (Some more) h moment few many step alike.same)
-      ∙ ap (λ (x : Bool). first_broken (judged_rules b moment many.duties x (observe a moment few.model step)))
+      (seen_by_duties (Some less) (Some more) h moment few many step alike.same)
+      ∙ ap (λ (x : Bool). first_broken (judged_rules b moment many.duties x (shown a moment few step)))
       (untrue_too (Some less) (Some more) h few many step alike.same)
-      ∙ (less_late (Some less) (Some more) le).steps h moment few.duties many.duties (untrue_at a few step) (observe a moment few.model step) alike.duties e
+      ∙ (less_late (Some less) (Some more) le).steps h moment few.duties many.duties (untrue_at a few step) (shown a moment few step) alike.duties e
 
   known_alike : (moment : ℕ) (few many : Known) (step : Step tcp_shape) → IsAlike few many → first_broken (watch_rules a moment few step) ≡ None
       → IsAlike (known_after a moment few step) (known_after b moment many step)
   known_alike moment few many step alike e = record {
     same = same_after (Some less) (Some more) h moment few many step alike.same;
     duties =
-        subst (λ (d : Duties). HasMoreCredits (noted_by a moment (after (tcp a) moment few.model step) (observe a moment few.model step) few.duties) d)
+        subst (λ (d : Duties). HasMoreCredits (noted_by a moment (after (tcp a) moment few.model step) (shown a moment few step) few.duties) d)
         (sym noted)
-        (slack_is_hardly_noted h less more moment (after (tcp a) moment few.model step) (untrue_at a few step) (observe a moment few.model step) few.duties
+        (slack_is_hardly_noted h less more moment (after (tcp a) moment few.model step) (untrue_at a few step) (shown a moment few step) few.duties
         many.duties le
         alike.duties e);
   }
     where
-      noted : noted_by b moment (after (tcp b) moment many.model step) (observe b moment many.model step) many.duties
-          ≡ noted_by b moment (after (tcp a) moment few.model step) (observe a moment few.model step) many.duties
+      noted : noted_by b moment (after (tcp b) moment many.model step) (shown b moment many step) many.duties
+          ≡ noted_by b moment (after (tcp a) moment few.model step) (shown a moment few step) many.duties
       noted =
-          ap (λ (w : World tcp_shape). noted_by b moment w (observe b moment many.model step) many.duties)
+          ap (λ (w : World tcp_shape). noted_by b moment w (shown b moment many step) many.duties)
           (world (Some less) (Some more) h moment few many step alike.same)
           ∙ ap (λ (s : Observation). noted_by b moment (after (tcp a) moment few.model step) s many.duties)
-          (seen (Some less) (Some more) h moment few many step alike.same)
+          (seen_by_duties (Some less) (Some more) h moment few many step alike.same)
 
   dutiful_more : (few many : Known) (xs : List (Stamped tcp_shape)) → IsAlike few many → Dutiful a few xs → Dutiful b many xs
   dutiful_more few many [] alike kept = tt

@@ -10,7 +10,7 @@ ghost use Rattle.spec_step.specs.Faults.{IfBroken};
 ghost use Rattle.spec_tcp.specs.Bounds.{most_steps};
 ghost use Rattle.spec_cases.specs.Cases.{after, asked_after, asked_rules, broken_by, judged_rules, late_at_end};
 ghost use Rattle.spec_cases.specs.Cases.{noted_by, refused_by, with_waits};
-ghost use Rattle.spec_cases.specs.Cases.{start, untrue_at};
+ghost use Rattle.spec_cases.specs.Cases.{shown, start, untrue_at};
 ghost use Rattle.verdict.specs.declared.rule.Rule.TheVariants as rules;
 ghost use Rattle.spec_duties.specs.Observations.{observe};
 ghost use Rattle.spec_duties.specs.Observations as views;
@@ -201,22 +201,24 @@ fn with_refusal(done: Result<(), StepFault>, refusal: Option<Rule>) -> Result<()
     }
 }
 
-// What is known of a step by what is kept of data in flight: the rule that it breaks, and whether it sends a selective
-// acknowledgment that isn't true.
+// What is known of a step by what is kept of data in flight: the rule that it breaks, whether it sends a selective
+// acknowledgment that isn't true, and what duties see of it.
 #[derive(Clone, Copy)]
-struct Flown {
+struct Flown<'a> {
     refusal: Option<Rule>,
     untrue: bool,
+    shown: &'a Observation,
 }
 
 // The same of a step that sends nothing.
 #[inline(always)]
-fn refused(refusal: Option<Rule>) -> Flown
-    ensures { result ≡ record { refusal = refusal; untrue = false } }
+fn refused<'a>(refusal: Option<Rule>, shown: &'a Observation) -> Flown<'a>
+    ensures { result ≡ record { refusal = refusal; untrue = false; shown = shown.entry } }
 {
     Flown {
         refusal,
         untrue: false,
+        shown,
     }
 }
 
@@ -230,7 +232,7 @@ fn watch_step<S: ModelStep>(
     moment: u64,
     step: S,
     seen: &Observation,
-    flown: Flown,
+    flown: Flown<'_>,
 ) -> Result<(), StepFault>
     requires steps { world.old.steps < most_steps }
     requires small { S.is_small step }
@@ -239,6 +241,8 @@ fn watch_step<S: ModelStep>(
         ≡ refused_by world.old.header moment (known_of world.old flights.old duties.old) (S.step step) }
     requires untrue { flown.untrue
         ≡ untrue_at world.old.header (known_of world.old flights.old duties.old) (S.step step) }
+    requires shown { flown.shown.now
+        ≡ shown world.old.header moment (known_of world.old flights.old duties.old) (S.step step) }
     ensures ok { OnOk result (case_of world.new flights.new duties.new
         ≡ after (case_of world.old flights.old duties.old) moment (S.step step)) }
     ensures admitted { OnOk result
@@ -250,7 +254,7 @@ fn watch_step<S: ModelStep>(
         Ok(()) => {
             let after = view_in(world, &seen.touched);
             flights.note(world.header(), moment, seen, &after)?;
-            watch(world, duties, moment, flown.untrue, seen, &after)
+            watch(world, duties, moment, flown.untrue, flown.shown, &after)
         }
         Err(fault) => Err(fault),
     }
@@ -318,6 +322,7 @@ fn judge_line(
             let flown = Flown {
                 refusal: None,
                 untrue,
+                shown: &seen,
             };
             watch_step(world, flights, duties, moment, taken, &seen, flown)
         }
@@ -331,7 +336,7 @@ fn judge_line(
                 moment,
                 taken,
                 &seen,
-                refused(refusal),
+                refused(refusal, &seen),
             )
         }
         TakenLine::CallBegin { .. }
@@ -339,7 +344,7 @@ fn judge_line(
         | TakenLine::Came { .. }
         | TakenLine::Heard { .. } => {
             let seen = observe_line(world, moment, &taken);
-            watch_step(world, flights, duties, moment, taken, &seen, refused(None))
+            watch_step(world, flights, duties, moment, taken, &seen, refused(None, &seen))
         }
     }
 }
@@ -365,7 +370,7 @@ fn judge_hidden(
     match *step {
         Hidden::Effect { thread, answer } => {
             let seen = observe_effect(world, moment, thread, answer);
-            watch_step(world, flights, duties, moment, *step, &seen, refused(None))
+            watch_step(world, flights, duties, moment, *step, &seen, refused(None, &seen))
         }
         Hidden::Build { host, plan } => {
             let seen = observe_making(world, host, plan, moment);
@@ -377,12 +382,12 @@ fn judge_hidden(
                 moment,
                 *step,
                 &seen,
-                refused(refusal),
+                refused(refusal, &seen),
             )
         }
         Hidden::Process { host, line, choice } => {
             let seen = observe_taking(world, host, line, choice, moment);
-            watch_step(world, flights, duties, moment, *step, &seen, refused(None))
+            watch_step(world, flights, duties, moment, *step, &seen, refused(None, &seen))
         }
         Hidden::Recover { .. } => {
             let seen = observe_hidden(world, moment, step);
@@ -394,12 +399,17 @@ fn judge_hidden(
                 moment,
                 *step,
                 &seen,
-                refused(refusal),
+                refused(refusal, &seen),
             )
         }
-        Hidden::Drop { .. } | Hidden::Reset { .. } => {
+        Hidden::Drop { .. } => {
             let seen = observe_hidden(world, moment, step);
-            watch_step(world, flights, duties, moment, *step, &seen, refused(None))
+            let shown = flights.excused(world.header(), &seen);
+            watch_step(world, flights, duties, moment, *step, &seen, refused(None, &shown))
+        }
+        Hidden::Reset { .. } => {
+            let seen = observe_hidden(world, moment, step);
+            watch_step(world, flights, duties, moment, *step, &seen, refused(None, &seen))
         }
     }
 }

@@ -9,6 +9,7 @@ ghost use Rattle.spec_network.specs.Tables.{on, pick};
 ghost use Rattle.spec_tcp.specs.Bounds.{most_steps};
 ghost use Rattle.spec_tcp.specs.Steps.{line_step};
 ghost use Rattle.spec_step.specs.Acts.{step_hidden};
+ghost use Rattle.spec_duties.specs.Arrivals.{stamps_read};
 ghost use Rattle.spec_duties.specs.Dropped.{has_content};
 ghost use Rattle.spec_duties.specs.Observations.{at_drop, at_next, at_place, at_ports, at_sender, at_target};
 ghost use Rattle.spec_duties.specs.Observations.{processing_of};
@@ -18,6 +19,7 @@ ghost use Rattle.spec_duties.specs.declared.observations.BuiltChange.TheVariants
 ghost use Rattle.spec_duties.specs.declared.observations.InboxChange.TheVariants as inbox_change;
 ghost use Rattle.watched.specs.Targets.{taker_at};
 
+use crate::arrivals::{arrival_at, stamps_read};
 use crate::blocks::{blocks_taken, no_blocks};
 use crate::calls::observe_effect;
 use crate::credits::{earns_by_dropping, earns_by_taking};
@@ -59,6 +61,8 @@ pub(crate) fn unseen() -> Observation
         syn_change: SynChange::Nothing,
         blocks: no_blocks(),
         kept: nothing_kept(),
+        stamps: None,
+        arrival: None,
         call_change: CallChange::Nothing,
         socket_change: SocketChange::Nothing,
     }
@@ -219,6 +223,8 @@ fn observe_drop(world: &World, host: Host, line: u64, moment: u64) -> Observatio
         dropping: Some(dropping_of(host, processing, answering, droppable, old)),
         earns: earns_by_dropping(version, body, m, processing, target),
         syn_change: syn_dropped(version, body, m, target),
+        stamps: stamps_read(version, m.bytes.as_slice()),
+        arrival: arrival_at(version, body, m, target),
         ..unseen()
     }
 }
@@ -251,6 +257,8 @@ pub(crate) fn observe_taking(
         syn_change: syn_taken(version, body, m, target),
         blocks: blocks_taken(version, body, m, target),
         kept: kept_at(version, body, how, m, target),
+        stamps: stamps_read(version, m.bytes.as_slice()),
+        arrival: arrival_at(version, body, m, target),
         ..unseen()
     }
 }
@@ -306,6 +314,7 @@ pub(crate) fn observe_sending(world: &World, host: Host, number: u32, wire: &Wir
           touched = at_sender host (pick world.now.world.hosts host).body wire.now m.emission;
           built_change = built_change.Sends number;
           syn_change = syn_sent world.now.header.version m.emission wire.now.bytes;
+          stamps = stamps_read world.now.header.version wire.now.bytes;
         }) }
 {
     match world.made(host, number) {
@@ -313,6 +322,7 @@ pub(crate) fn observe_sending(world: &World, host: Host, number: u32, wire: &Wir
             touched: at_sender(host, world.body(host), wire, made.emission()),
             built_change: BuiltChange::Sends(number),
             syn_change: syn_sent(world.header().version, made.emission(), &wire.bytes),
+            stamps: stamps_read(world.header().version, &wire.bytes),
             ..unseen()
         },
         None => unseen(),
