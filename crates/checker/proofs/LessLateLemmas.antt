@@ -28,7 +28,7 @@ use Rattle.spec_tcp_laws.specs.Ascending.{rule_number}
 use Rattle.spec_tcp_laws.proofs.Rules.{at_most_to, both_true}
 use Rattle.duties.proofs.SlackLemmas.{dutiful_any, late_any, nothing_judged}
 use Rattle.spec_flights.specs.Flights.{judges}
-use Rattle.spec_cases.specs.Cases.{Dutiful, Known, first_known, known_after_all, late_at_end, model_rules, untrue_at, watch_rules}
+use Rattle.spec_cases.specs.Cases.{Dutiful, Known, first_known, known_after_all, late_at_end, model_rules, shown, untrue_at, watch_rules}
 use Rattle.spec_cases.specs.Slack.{AtMost, with_slack}
 use Rattle.watched.proofs.AscendLemmas.{tops}
 use Rattle.watched.proofs.RefusalLemmas.{model_top}

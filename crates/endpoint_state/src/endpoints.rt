@@ -162,7 +162,14 @@ impl Endpoints {
 
     /// Fast recovery begins at the endpoint at a place, or is undone, with this congestion window and slow start
     /// threshold (in bytes), at a moment in microseconds.
-    pub(crate) fn recover(&mut self, place: u32, change: RecoveryChange, cwnd: u32, ssthresh: u32, moment: u64)
+    pub(crate) fn recover(
+        &mut self,
+        place: u32,
+        change: RecoveryChange,
+        cwnd: u32,
+        ssthresh: u32,
+        moment: u64,
+    )
         requires { All HasRoom self.old }
         ensures { self.new ≡ changed self.old place (λ e. after_recovery e change cwnd ssthresh moment) }
     {

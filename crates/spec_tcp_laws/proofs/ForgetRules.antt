@@ -87,4 +87,4 @@ expiry_rules-forget h moment e Pto = rw (rcv_nxt-forget e, snd_max-forget e) ref
 pub recovery_rules-forget : (v : Version) (e : Endpoint) (change : RecoveryChange) (cwnd ssthresh moment : ℕ)
     → recovery_rules v (forget_endpoint e) change cwnd ssthresh moment ≡ recovery_rules v e change cwnd ssthresh moment
 recovery_rules-forget v e Begins cwnd ssthresh moment = rw (rcv_nxt-forget e, snd_max-forget e) refl
-recovery_rules-forget v e IsUndone cwnd ssthresh moment = refl
+recovery_rules-forget v e IsUndone cwnd ssthresh moment = rw (rcv_nxt-forget e) refl

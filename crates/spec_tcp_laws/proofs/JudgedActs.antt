@@ -151,7 +151,7 @@ act_kept j h me moment b (Expires x) =
     ports_kept (profile_of (header_by j h)) b x.lport x.rport (λ e. after_expiry e x.expired moment) (expiry_kept (profile_of (header_by j h)) x.expired moment)
 act_kept j h me moment b (Recovers x) =
     ports_kept (profile_of (header_by j h)) b x.lport x.rport (λ e. after_recovery e x.change x.cwnd x.ssthresh moment)
-    (recovery_kept (profile_of (header_by j h)) x.cwnd x.ssthresh moment)
+    (recovery_kept (profile_of (header_by j h)) x.change x.cwnd x.ssthresh moment)
 
 -- the segment that is made
 pub makes_same : (p : Profile) (me : Host) (moment : ℕ) (b : HostTcp) (act : Act) → act_makes me moment (body_by p b) act ≡ act_makes me moment b act
