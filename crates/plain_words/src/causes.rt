@@ -141,6 +141,9 @@ pub enum Known {
     NothingLater,
     /// Both SYNs permitted SACK, and fast recovery begins before the last recovery ended.
     StillRecovers,
+    /// Both SYNs permitted SACK, and a recovery that may be undone keeps fast recovery from beginning, or the timer pto
+    /// from expiring.
+    NotUndone,
 }
 
 impl Known {
@@ -276,6 +279,7 @@ line)",
                 "the stack retransmits data that isn't lost, or the trace lacks the expiry (a `T` line)",
             Known::StillRecovers =>
                 "the stack begins fast recovery before the last recovery ends (RFC 6675, 5)",
+            Known::NotUndone => "the witness lacks the U step of a recovery that wasn't needed",
         }
     }
 

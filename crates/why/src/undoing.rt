@@ -6,7 +6,7 @@ use case_forms::{
 };
 use endpoint_state::Endpoint;
 use flights::ProbeStanding;
-use plain_words::Known;
+use plain_words::{Known, word_if};
 
 // What a step did to a recovery.
 #[derive(Clone, Copy, PartialEq, Eq)]
@@ -208,6 +208,23 @@ expiry; SND.UNA is {una}"
 fn is_selective(scene: &Scene) -> bool {
     let standing = scene.touched.and_then(|id| scene.probe_standing(id));
     !matches!(standing, Some(ProbeStanding::Plain { .. }) | None)
+}
+
+/// Whether the last recovery of the endpoint that the step touches may be undone.
+pub(crate) fn may_be_undone(scene: &Scene) -> bool {
+    match scene.touched {
+        Some(id) => scene.flights.is_spurious(id.host, id.number),
+        None => false,
+    }
+}
+
+/// Writes that the recovery may be undone that refuses the step, if that's so.
+pub(crate) fn say_undoable(out: &mut String, scene: &Scene) -> Result<(), OutOfMemory> {
+    let undoable = may_be_undone(scene);
+    out.push_str(word_if(
+        undoable,
+        "that recovery wasn't needed, so a U step may undo it first\n",
+    ))
 }
 
 /// Whether this is known where a recovery is undone that may have been needed.
