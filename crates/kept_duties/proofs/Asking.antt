@@ -201,7 +201,7 @@ module _ (t : Trace) (w : Witness) (slack : ℕ) (r : Run t.header slack (length
       → DropsAreAnswered t w slack
   drops_answered plain placed late place moment line me m e at sent asking due =
       arises t w slack r placed late me (λ o. o.acknowledge) longest_delay Answers (λ l. l.acknowledge) acknowledge_duty
-      (plain_same (λ l. l.acknowledge) t.header slack plain) (λ is as same rest. ap (λ (o : Owed). o.acknowledge) (same plain)) place moment
+      (plain_same (λ l. l.acknowledge) t.header slack plain) (λ is like same rest. ap (λ (o : Owed). o.acknowledge) (same plain)) place moment
       (Drops true (has_content m)) happens
       (λ before after now listener counts o is next same old. asks_begins (has_content m) before after now listener counts o (limits now o same old due))
     where

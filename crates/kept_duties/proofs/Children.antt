@@ -278,7 +278,7 @@ module _ (t : Trace) (w : Witness) (slack : ℕ) (r : Run t.header slack (length
               let old = since.2 in
               later (from_step t w slack r placed me (λ o. o.reset ≡ Some since.0) SendsReset (λ v. false) (λ l. l.reset) j (moment + slack)
               (reset_wait since.0 (moment + slack) slack (omega (arith, old))) (reset_same t.header slack)
-              (λ is as plain rest owes. ap (λ (o : Owed). o.reset) rest ∙ owes) late y.moment touch.event
+              (λ is like plain rest owes. ap (λ (o : Owed). o.reset) rest ∙ owes) late y.moment touch.event
               (happens_from t w j y me touch.event at touch.shows) refl
               (ap (λ (o : Owed). o.reset) owes.rest
               ∙ reset_is touch.event before after' y.moment owes.listener owes.counts o

@@ -1,11 +1,13 @@
 -- A dropped segment need neither be processed nor answered.
 use Rattle.std.proofs.Common.{◌≡◌, ℕ, ◌+◌, ◌-◌, ◌<◌, ◌⊎◌, inl, inr, Bool, true, false, length, Option, Some, None, refl, ap, sym, subst, ◌∙◌, arith}
 use Rattle.std.proofs.lemmas.Bool.Decides.{nat_tests}
-use Rattle.std.proofs.lemmas.Option.{slice_get_within}
+use Rattle.std.proofs.lemmas.Option.{none-some, same_Some, slice_get_within}
 use Rattle.std.specs.Prelude.{◌==◌, ◌&&◌, ◌||◌, if◌then◌else◌, is_some, nat_le, nat_lt, not, slice_get}
 use Rattle.seqno.specs.Near.{near_position}
 use Rattle.seqno.specs.Numbers.{number_of}
 use Rattle.seqno.specs.declared.word.Word.{Word}
+use Rattle.segment.specs.Reading.{timestamps}
+use Rattle.segment.specs.declared.options.TimestampPair.{TimestampPair}
 use Rattle.case_forms.specs.States.{is_syn_received, is_syn_sent}
 use Rattle.case_forms.specs.Versions.{is_half, says_sender}
 use Rattle.std.specs.Option.{option_map_or}
@@ -18,9 +20,7 @@ use Rattle.case_forms.specs.declared.steps.Witness.{Witness}
 use Rattle.case_forms.specs.declared.trace.Trace.{Trace}
 use Rattle.verdict.specs.declared.rule.Rule.{Rule}
 use Rattle.verdict.specs.declared.rule.Rule.TheVariants as rules
-use Rattle.spec_cases.specs.Cases.{untrue_at}
-use Rattle.verdict.proofs.RuleLemmas.{none_all}
-use Rattle.spec_network.specs.Hosts.{At, Drops, Takes, World}
+use Rattle.spec_network.specs.Hosts.{At, Takes, World, Drops as DropStep}
 use Rattle.spec_network.specs.Tables.{on, pick, waiting}
 use Rattle.spec_tcp.specs.Arrives.{AtEndpoint, AtListener, Nobody, Taker, taker}
 use Rattle.spec_tcp.specs.Endpoints.{rcv_nxt, receive_window, segment_length}
@@ -32,18 +32,30 @@ use Rattle.spec_tcp.specs.declared.endpoint.Endpoint.{Endpoint}
 use Rattle.spec_tcp.specs.declared.endpoint.Listener.{Listener}
 use Rattle.spec_tcp_laws.proofs.Rules.{both_true, less_to, map_or_true, not_false, not_true, on_passes, true_false, zero_from}
 use Rattle.spec_duties.specs.Dropped.{acknowledges_less, answering_breaks, discards, discards_at, dropping_of, holds_next, is_below_irs}
-use Rattle.spec_duties.specs.Dropped.{is_challenged, is_next, is_old, is_unacceptable}
+use Rattle.spec_duties.specs.Dropped.{asks, has_content, is_challenged, is_next, is_old, is_unacceptable, reads_old_numbers}
 use Rattle.spec_duties.specs.Dropped.{keeps_order, meets_closed_window, droppable_by, taking_breaks}
 use Rattle.spec_duties.specs.Observations.{observe_dropping, observe, observe_taking, unseen}
-use Rattle.spec_duties.specs.Watching.{drops_needed, duty_rules, is_droppable}
+use Rattle.spec_duties.specs.Watching.{drops_needed, is_droppable}
+use Rattle.spec_duties.specs.Arrivals.{arrival_at, arrival_of, stamps_read}
+use Rattle.spec_duties.specs.Blocks.{reads_blocks}
+use Rattle.spec_duties.specs.declared.events.Event.{Event}
+use Rattle.spec_duties.specs.declared.events.Event.TheVariants.{Drops}
 use Rattle.spec_duties.specs.declared.observations.Droppable.TheVariants as droppables
+use Rattle.spec_duties.specs.declared.observations.Observation.{Observation}
+use Rattle.spec_duties.specs.declared.observations.TouchedEndpoint.{TouchedEndpoint}
+use Rattle.spec_flights.specs.Clocks.{Clocks, are_stamped, is_older, is_outdated, is_unstamped}
+use Rattle.spec_flights.specs.Flights.{excused, flight_at}
 use Rattle.kept_duties.specs.Drops.{AcknowledgesLess, HasOldNumber}
-use Rattle.kept_duties.specs.Drops.{ByListener, DropsAreLawful, HoldsNext, IsChallenged, MayBeDropped, IsDroppable, MeetsClosedWindow, NextIsKept}
-use Rattle.kept_duties.specs.Drops.{host_before, keeps_next}
+use Rattle.kept_duties.specs.Drops.{ByClock, ByListener, DropsAreLawful, HoldsNext, IsChallenged, IsMistimed, MayBeDropped, IsDroppable}
+use Rattle.kept_duties.specs.Drops.{MeetsClosedWindow, NextIsKept, clocks_before, host_before, keeps_next}
 use Rattle.kept_duties.proofs.Soon.{either_true}
 use Rattle.kept_duties.specs.Happens.{act_at, known_before, world_before}
 use Rattle.checker.specs.Seen.{act_of}
+use Rattle.kept_duties.proofs.Events.{place_touched}
+use Rattle.kept_duties.proofs.Excused.{AreMistimed, dropping_is}
 use Rattle.kept_duties.proofs.Runs.{Run, run_goes, world_is}
+use Rattle.kept_duties.proofs.Touched.{touched}
+use Rattle.spec_tcp_laws.proofs.Takes.{taker_there}
 
 -- of three tests, one isn't passed
 needed_not : (takes spares answers : Bool) → ((takes && not spares) || answers) ≡ false → ((takes ≡ false) ⊎ (spares ≡ true)) × (answers ≡ false)
@@ -181,25 +193,119 @@ module _ (t : Trace) (w : Witness) (slack : ℕ) (r : Run t.header slack (length
             below = no_position (near_position (rcv_nxt f) c.0 m.seq) c.2;
           }
 
+  -- what is seen of a segment that is dropped
+  module _ (place moment line : ℕ) (host : Host) where
+    abbrev see : World tcp_shape → Option Emission → Observation
+    see v o = on o unseen (λ m. observe_dropping t.header.version host (pick v.hosts host).body line (taking_breaks t.header moment v host line)
+        (answering_breaks t.header v host line) m (taker (pick v.hosts host).body m))
+
+    abbrev clocks : ℕ → Clocks
+    clocks i = clocks_before t w place host i
+
+    abbrev older : Clocks → TimestampPair → Bool
+    older c stamps = option_map_or (is_older stamps.value) c.most false
+
+    some_if : {X : Type 0} (b : Bool) (x : X) → is_some (if b then Some x else None) ≡ true → b ≡ true
+    some_if true x e = refl
+    some_if false x e = absurd cc
+
+    absent : (o : Option TimestampPair) → not (is_some o) ≡ true → o ≡ None
+    absent None e = refl
+    absent (Some stamps) e = absurd cc
+
+    -- of the endpoint at this place
+    fails_there : (i : ℕ) (e : Endpoint) (m : Emission) → taker (host_before t w place host) m ≡ AtEndpoint i e
+        → (stamped : are_stamped (clocks i) ≡ true) → is_some (arrival_at t.header.version m (AtEndpoint i e)) ≡ true
+        → (option_map_or (older (clocks i)) (stamps_read t.header.version m.bytes) false ≡ true)
+        ⊎ (not (is_some (stamps_read t.header.version m.bytes)) ≡ true)
+        → IsMistimed t w place host m
+    fails_there i e m goes stamped arrives fails =
+        let reads = some_if (reads_blocks t.header.version e m) (arrival_of (as_read t.header.version e m)) arrives in
+        let a = both_true (says_sender t.header.version && not m.flags.rst) (not (is_syn_sent e.state)) reads in
+        let b = both_true (says_sender t.header.version) (not m.flags.rst) a.0 in
+        let told : stamps_read t.header.version m.bytes ≡ timestamps m.bytes =
+        ap (λ (six : Bool). if six then timestamps m.bytes else None) b.0 in
+        record {
+          at = i;
+          endpoint = e;
+          comes = goes;
+          six = b.0;
+          knows = not_true (is_syn_sent e.state) a.1;
+          no_reset = not_true m.flags.rst b.1;
+          stamped = stamped;
+          fails = by told fails;
+        }
+      where
+        by : stamps_read t.header.version m.bytes ≡ timestamps m.bytes
+            → (option_map_or (older (clocks i)) (stamps_read t.header.version m.bytes) false ≡ true)
+            ⊎ (not (is_some (stamps_read t.header.version m.bytes)) ≡ true)
+            → (timestamps m.bytes ≡ None)
+            ⊎ ((stamps : TimestampPair) × (newest : Word) × (timestamps m.bytes ≡ Some stamps)
+            × ((clocks i).most ≡ Some newest) × (is_older stamps.value newest ≡ true))
+        by told (inr none) = inl (sym told ∙ absent (stamps_read t.header.version m.bytes) none)
+        by told (inl old) =
+            let x = map_or_true (stamps_read t.header.version m.bytes) (older (clocks i)) old in
+            let y = map_or_true (clocks i).most (is_older x.0.value) x.2 in
+            inr (x.0, y.0, sym told ∙ x.1, y.1, y.2)
+
+    mistimed : (m : Emission) → AreMistimed t.header (known_before t w place).flights (see (world_before t w place) (Some m)) → IsMistimed t w place host m
+    mistimed m = by (taker (host_before t w place host) m) refl
+      where
+        taking : Option Rule
+        taking = taking_breaks t.header moment (world_before t w place) host line
+
+        dropped : Taker → Observation
+        dropped k = observe_dropping t.header.version host (host_before t w place host) line taking
+            (answering_breaks t.header (world_before t w place) host line) m k
+
+        event : Endpoint → Event
+        event e = Drops (asks (reads_old_numbers t.header.version) m taking e) (has_content m)
+
+        Fails : ℕ → Observation → Type 0
+        Fails i s = (is_outdated (clocks i) s || is_unstamped (clocks i) s) ≡ true
+
+        there : (i : ℕ) (e : Endpoint) → taker (host_before t w place host) m ≡ AtEndpoint i e → Fails i (dropped (AtEndpoint i e))
+            → IsMistimed t w place host m
+        there i e goes fails =
+            elim (either_true (is_outdated (clocks i) (dropped (AtEndpoint i e))) (is_unstamped (clocks i) (dropped (AtEndpoint i e))) fails) [
+              | inl old ↦
+                  let a = both_true (are_stamped (clocks i) && is_some (arrival_at t.header.version m (AtEndpoint i e)))
+                  (option_map_or (older (clocks i)) (stamps_read t.header.version m.bytes) false) old in
+                  let b = both_true (are_stamped (clocks i)) (is_some (arrival_at t.header.version m (AtEndpoint i e))) a.0 in
+                  fails_there i e m goes b.0 b.1 (inl a.1)
+              | inr none ↦
+                  let a = both_true (are_stamped (clocks i) && is_some (arrival_at t.header.version m (AtEndpoint i e)))
+                  (not (is_some (stamps_read t.header.version m.bytes))) none in
+                  let b = both_true (are_stamped (clocks i)) (is_some (arrival_at t.header.version m (AtEndpoint i e))) a.0 in
+                  fails_there i e m goes b.0 b.1 (inr a.1)
+            ]
+
+        by : (k : Taker) → taker (host_before t w place host) m ≡ k → AreMistimed t.header (known_before t w place).flights (dropped k)
+            → IsMistimed t w place host m
+        by Nobody goes are = absurd (none-some are.at are.touches)
+        by (AtListener l) goes are = absurd (none-some are.at are.touches)
+        by (AtEndpoint i e) goes are =
+            let one : touched (world_before t w place) (record { host = host; number = i }) (event e) ≡ are.at =
+            same_Some (touched (world_before t w place) (record { host = host; number = i }) (event e)) are.at
+            (sym (place_touched (world_before t w place) host (event e) i e (taker_there (host_before t w place host) m i e goes)) ∙ are.touches) in
+            there i e goes
+            (subst (λ (u : TouchedEndpoint). (is_outdated (flight_at (known_before t w place).flights u.host u.place).clocks (dropped (AtEndpoint i e))
+            || is_unstamped (flight_at (known_before t w place).flights u.host u.place).clocks (dropped (AtEndpoint i e))) ≡ true) (sym one) are.fail)
+
   pub drops_lawful : DropsAreLawful t w
   drops_lawful place moment line host is =
       let low = slice_get_within w.steps place _ is.here in
-      let goes = run_goes t.header slack (length w.steps) (act_at t w) (known_before t w) r place (record { moment = moment; step = At host (Drops line) }) low
+      let goes = run_goes t.header slack (length w.steps) (act_at t w) (known_before t w) r place
+      (record { moment = moment; step = At host (DropStep line) }) low
       (ap (λ (o : Option WitnessStep). option_map_or (act_of t.header t.lines) o None) is.here) in
       let k = known_before t w place in
       let p = on_passes (waiting line (pick k.model.hosts host).inbox) rules.Inbox _ goes.permitted in
-      let fine = (none_all (duty_rules t.header slack moment k.duties (untrue_at t.header k (At host (Drops line)))
-      (observe t.header moment k.model (At host (Drops line)))) goes.dutiful).0 in
-      by p.0 (subst (λ (v : World tcp_shape). waiting line (pick v.hosts host).inbox ≡ Some p.0) (world_is t w place) p.1)
-      (subst (λ (v : World tcp_shape). drops_needed k.duties (Some (dropping_of host (taking_breaks t.header moment v host line)
-      (answering_breaks t.header v host line)
-      (droppable_by t.header.version (pick v.hosts host).body p.0 (taker (pick v.hosts host).body p.0))
-      (is_old t.header.version p.0 (taker (pick v.hosts host).body p.0)))) ≡ false) (world_is t w place)
-      (sym (ap (λ (o : Option Emission). drops_needed k.duties (on o unseen (λ m. observe_dropping t.header.version host
-      (pick k.model.hosts host).body line
-      (taking_breaks t.header moment k.model host line) (answering_breaks t.header k.model host line) m
-      (taker (pick k.model.hosts host).body m))).dropping) p.1) ∙ fine))
+      let waits = subst (λ (v : World tcp_shape). waiting line (pick v.hosts host).inbox ≡ Some p.0) (world_is t w place) p.1 in
+      here p.0 waits p.1 goes.dropped (dropping_is t.header k.flights (observe t.header moment k.model (At host (DropStep line))))
     where
+      shows : Observation
+      shows = observe t.header moment (known_before t w place).model (At host (DropStep line))
+
       by : (m : Emission) → waiting line (pick (world_before t w place).hosts host).inbox ≡ Some m
           → drops_needed (known_before t w place).duties (Some (dropping_of host (taking_breaks t.header moment (world_before t w place) host line)
           (answering_breaks t.header (world_before t w place) host line)
@@ -226,13 +332,13 @@ module _ (t : Trace) (w : Witness) (slack : ℕ) (r : Run t.header slack (length
               || is_old t.header.version m (taker (host_before t w place host) m) ≡ true)
               → (is_some (answering_breaks t.header (world_before t w place) host line) ≡ true)
               ⊎ (taking_breaks t.header moment (world_before t w place) host line ≡ Some rules.Unacceptable)
-              ⊎ HasOldNumber t w place host m
+              ⊎ HasOldNumber t w place host m ⊎ IsMistimed t w place host m
           answer (inl breaks) = inl breaks
           answer (inr is) =
               elim (either_true (is_unacceptable (taking_breaks t.header moment (world_before t w place) host line))
               (is_old t.header.version m (taker (host_before t w place host) m)) is) [
                 | inl is ↦ inr (inl (unacceptable_is (taking_breaks t.header moment (world_before t w place) host line) is))
-                | inr is ↦ inr (inr (old_number place host m is))
+                | inr is ↦ inr (inr (inl (old_number place host m is)))
               ]
 
           process : (not (is_some (taking_breaks t.header moment (world_before t w place) host line)) ≡ false)
@@ -242,6 +348,26 @@ module _ (t : Trace) (w : Witness) (slack : ℕ) (r : Run t.header slack (length
           process (inl breaks) = inl (not_false (is_some (taking_breaks t.header moment (world_before t w place) host line)) breaks)
           process (inr full) = inr (droppable place host m full)
 
+      here : (m : Emission) → waiting line (pick (world_before t w place).hosts host).inbox ≡ Some m
+          → waiting line (pick (known_before t w place).model.hosts host).inbox ≡ Some m
+          → drops_needed (known_before t w place).duties (excused t.header (known_before t w place).flights shows).dropping ≡ false
+          → ((excused t.header (known_before t w place).flights shows).dropping ≡ shows.dropping)
+          ⊎ AreMistimed t.header (known_before t w place).flights shows
+          → MayBeDropped t w place moment host line
+      here m waits was none (inl same) =
+          by m waits
+          (subst (λ (v : World tcp_shape). drops_needed (known_before t w place).duties (see place moment line host v (Some m)).dropping ≡ false)
+          (world_is t w place)
+          (subst (λ (o : Option Emission). drops_needed (known_before t w place).duties
+          (see place moment line host (known_before t w place).model o).dropping ≡ false) was
+          (sym (ap (drops_needed (known_before t w place).duties) same) ∙ none)))
+      here m waits was none (inr are) =
+          let late = mistimed place moment line host m
+          (subst (λ (v : World tcp_shape). AreMistimed t.header (known_before t w place).flights (see place moment line host v (Some m))) (world_is t w place)
+          (subst (λ (o : Option Emission). AreMistimed t.header (known_before t w place).flights
+          (see place moment line host (known_before t w place).model o)) was are)) in
+          record { segment = m; waits = waits; processing = inr (ByClock late); answering = inr (inr (inr late)) }
+
   pub next_kept : NextIsKept t w
   next_kept place moment line i host choice m e is waits goes_to next =
       let low = slice_get_within w.steps place _ is.here in
@@ -249,8 +375,7 @@ module _ (t : Trace) (w : Witness) (slack : ℕ) (r : Run t.header slack (length
       (record { moment = moment; step = At host (Takes line choice) }) low
       (ap (λ (o : Option WitnessStep). option_map_or (act_of t.header t.lines) o None) is.here) in
       let k = known_before t w place in
-      let fine = (none_all (duty_rules t.header slack moment k.duties (untrue_at t.header k (At host (Takes line choice)))
-      (observe t.header moment k.model (At host (Takes line choice)))) goes.dutiful).1.0 in
+      let fine = goes.dutiful.1.0 in
       let here : (observe t.header moment (world_before t w place) (At host (Takes line choice))).discards ≡ false =
       subst (λ (v : World tcp_shape). (observe t.header moment v (At host (Takes line choice))).discards ≡ false) (world_is t w place) fine in
       let b = host_before t w place host in

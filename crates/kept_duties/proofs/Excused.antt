@@ -43,14 +43,14 @@ AsSeen other event = event ≡ other
 -- what doesn't read that holds of both
 pub as_event : (Q : Event → Type 0) → ((asks now unlimited : Bool) → Q (Drops asks unlimited) → Q (Drops now unlimited)) → (event seen : Event)
     → AsSeen event seen → Q seen → Q event
-as_event Q each (Drops asks unlimited) seen as q = each as.0 asks unlimited (subst Q as.1 q)
-as_event Q each Opens seen as q = subst Q as q
-as_event Q each (Calls aborts) seen as q = subst Q as q
-as_event Q each (Processes length rst) seen as q = subst Q as q
-as_event Q each (Builds m) seen as q = subst Q as q
-as_event Q each (Sends s) seen as q = subst Q as q
-as_event Q each (Expires timer) seen as q = subst Q as q
-as_event Q each (Recovers change) seen as q = subst Q as q
+as_event Q each (Drops asks unlimited) seen like q = each like.0 asks unlimited (subst Q like.1 q)
+as_event Q each Opens seen like q = subst Q like q
+as_event Q each (Calls aborts) seen like q = subst Q like q
+as_event Q each (Processes length rst) seen like q = subst Q like q
+as_event Q each (Builds m) seen like q = subst Q like q
+as_event Q each (Sends s) seen like q = subst Q like q
+as_event Q each (Expires timer) seen like q = subst Q like q
+as_event Q each (Recovers change) seen like q = subst Q like q
 
 as_excused : (outdated unstamped : Bool) (event : Event) → AsSeen event (event_excused outdated unstamped event)
 as_excused outdated unstamped (Drops asks unlimited) = ((asks || outdated) && not unstamped, refl)
@@ -126,7 +126,7 @@ pub record AreMistimed (h : Header) (fs : Flights) (s : Observation) : Type 0 wh
 pub dropping_is : (h : Header) (fs : Flights) (s : Observation) → ((excused h fs s).dropping ≡ s.dropping) ⊎ AreMistimed h fs s
 dropping_is h fs s = by (says_sender h.version) refl s.touched refl
   where
-    abbrev Is : Observation → Type 0
+    Is : Observation → Type 0
     Is e = (e.dropping ≡ s.dropping) ⊎ AreMistimed h fs s
 
     none : (o : Option Dropping) → option_map (dropping_excused false) o ≡ o
@@ -194,10 +194,10 @@ but_acknowledge o = record o { acknowledge = None }
 pub owed_seen : (event seen : Event) → AsSeen event seen → (before after : View) (moment : ℕ) (listener : Option ℕ) (counts : Bool) (o : Owed)
     → but_acknowledge (owed_after seen before after moment listener counts o)
     ≡ but_acknowledge (owed_after event before after moment listener counts o)
-owed_seen event seen as before after moment listener counts o =
+owed_seen event seen like before after moment listener counts o =
     as_event (λ (e : Event). but_acknowledge (owed_after seen before after moment listener counts o)
     ≡ but_acknowledge (owed_after e before after moment listener counts o))
-    (λ asks now unlimited q. q ∙ dropped asks now unlimited (is_closed after.state)) event seen as refl
+    (λ asks now unlimited q. q ∙ dropped asks now unlimited (is_closed after.state)) event seen like refl
   where
     dropped : (asks now unlimited closed : Bool)
         → but_acknowledge (if closed then once_closed (owed_open (Drops asks unlimited) before after moment listener counts o)

@@ -181,7 +181,7 @@ module _ (t : Trace) (w : Witness) (slack : ℕ) (r : Run t.header slack (length
   expiries_in_time plain placed late place moment since from me event a runs low opened =
       from_step t w slack r placed me (λ o. o.opened ≤ from) TimesOut (λ v. not (runs_on since first v)) (λ l. l.expire) place
       (from + run_time first + slack) (expiry_wait since from slack first low) (plain_same (λ l. l.expire) t.header slack plain)
-      (λ is as plain rest low. let same : is.opened ≡ as.opened = ap (λ (o : Owed). o.opened) rest in omega (arith, same, low)) late moment event a
+      (λ is like plain rest low. let same : is.opened ≡ like.opened = ap (λ (o : Owed). o.opened) rest in omega (arith, same, low)) late moment event a
       (ap (λ (v : World tcp_shape). not (runs_on since first (seen v me))) (world_is t w (suc place)) ∙ ap not (runs_self since first runs))
       (opened_low me place from (within t w place a.act a.is) opened)
     where

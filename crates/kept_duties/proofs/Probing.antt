@@ -245,7 +245,7 @@ module _ (t : Trace) (w : Witness) (slack : ℕ) (r : Run t.header slack (length
   probes_in_time plain placed late place moment me event p a probes low =
       from_step t w slack r placed me (λ o. o.probing ≡ Some (probing_of p)) ProbesIt (λ v. not (awaits_probe first.timers.rto v)) (λ l. l.probe) place
       (p.since + probe_time first p.count + slack) (probe_wait first.timers.rto slack p low)
-      (plain_same (λ l. l.probe) t.header slack plain) (λ is as plain rest owes. ap (λ (o : Owed). o.probing) rest ∙ owes) late moment event a
+      (plain_same (λ l. l.probe) t.header slack plain) (λ is like plain rest owes. ap (λ (o : Owed). o.probing) rest ∙ owes) late moment event a
       (ap (λ (v : World tcp_shape). not (awaits_probe first.timers.rto (seen v me))) (world_is t w (suc place)) ∙ ap not awaits)
       (agree_at me (suc place) (within t w place a.act a.is) ∙ ap (option_map probing_of) probes)
     where

@@ -296,7 +296,7 @@ module _ (t : Trace) (w : Witness) (slack : ℕ) (r : Run t.header slack (length
           let time = a.time in
           from_step t w slack r placed me (λ o. o.reset ≡ Some since) SendsReset (λ v. false) (λ l. l.reset) place (moment + slack)
           (reset_wait since (moment + slack) slack (omega (arith, old, time))) (reset_same t.header slack)
-          (λ is as plain rest owes. ap (λ (o : Owed). o.reset) rest ∙ owes) late moment (Calls true) a refl now
+          (λ is like plain rest owes. ap (λ (o : Owed). o.reset) rest ∙ owes) late moment (Calls true) a refl now
 
       done : IsDoneUnless t w place (moment + slack) me SendsReset (λ v. false) → HappensBy t w place (moment + slack) me SendsReset ⊎ EndsBy w (moment + slack)
       done (inl sends) = inl sends

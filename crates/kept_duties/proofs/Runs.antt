@@ -185,7 +185,7 @@ module _ (h : Header) (lines : List Line) where
       seen : Sees h s e
       seen = sees h k.flights s
 
-      abbrev All : Observation → Type 0
+      All : Observation → Type 0
       All e = AllByRecursion (λ r. r.1 ≡ false) (duty_rules h slack x.moment k.duties (untrue_at h k x.step) e)
 
       fine : All e

@@ -63,7 +63,7 @@ pub record Wait (Inv : Owed → Type 0) (Kind : Event → (before after : View) 
 -- what is read of what an endpoint owes is as if a step did what `observe` shows: of its acknowledgment in versions 1 to 5,
 -- of all else in each version
 abbrev pub IsAsShown : Header → {X : Type 0} → (Owed → X) → Type 0
-IsAsShown h get = (is as : Owed) → (says_sender h.version ≡ false → is ≡ as) → but_acknowledge is ≡ but_acknowledge as → get is ≡ get as
+IsAsShown h get = (is like : Owed) → (says_sender h.version ≡ false → is ≡ like) → but_acknowledge is ≡ but_acknowledge like → get is ≡ get like
 
 -- a duty that an endpoint has since a moment: `get`. It has this much time, and this kind of event ends it, or CLOSED
 pub record Duty (get : Owed → Option ℕ) (extra : ℕ) (Kind : Event → (before after : View) → Type 0) (sel : Lates → Bool) : Type 0 where
@@ -236,7 +236,7 @@ module _ (t : Trace) (w : Witness) (slack : ℕ) (r : Run t.header slack (length
 
   module _ (me : EndpointId) (Inv : Owed → Type 0) (Kind : Event → (before after : View) → Type 0) (Is : View → Bool) (sel : Lates → Bool) (i by_then : ℕ)
       (wait : Wait Inv Kind Is sel slack by_then) (same : IsSame sel t.header slack)
-      (reads : (is as : Owed) → (says_sender t.header.version ≡ false → is ≡ as) → but_acknowledge is ≡ but_acknowledge as → Inv as → Inv is) where
+      (reads : (is like : Owed) → (says_sender t.header.version ≡ false → is ≡ like) → but_acknowledge is ≡ but_acknowledge like → Inv like → Inv is) where
     -- what is still to be done
     record Still (k : Known) : Type 0 where
       owes : Inv (owed_by k.duties me.host me.number)

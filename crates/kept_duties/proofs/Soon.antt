@@ -387,7 +387,7 @@ module _ (t : Trace) (w : Witness) (slack : ℕ) (r : Run t.header slack (length
           let old = not_after t w slack r placed me get extra Kind sel duty reads place a.act a.is since now in
           from_step t w slack r placed me (λ o. get o ≡ Some since) Kind (λ v. is_closed v.state) sel place (a.act.moment + extra + slack)
           (wait_of duty slack since (a.act.moment + extra + slack) (omega (arith, old))) same
-          (λ is as plain rest owes. reads is as plain rest ∙ owes) late moment event a open' now
+          (λ is like plain rest owes. reads is like plain rest ∙ owes) late moment event a open' now
 
       by : (is_closed (seen (known_before t w (suc place)).model me).state ≡ true)
           ⊎ ((since : ℕ) × (get (owed_after event (seen (known_before t w place).model me)
@@ -402,7 +402,7 @@ module _ (t : Trace) (w : Witness) (slack : ℕ) (r : Run t.header slack (length
   receipts_answered plain place moment length me a some receives' =
       arises me (λ o. o.acknowledge) longest_delay Answers (λ l. l.acknowledge) acknowledge_duty
       (plain_same (λ l. l.acknowledge) t.header slack plain)
-      (λ is as same rest. ap (λ (o : Owed). o.acknowledge) (same plain)) place moment (Processes length false) a
+      (λ is like same rest. ap (λ (o : Owed). o.acknowledge) (same plain)) place moment (Processes length false) a
       (λ before after moment listener counts o is now at old. acknowledge_begins length before after moment listener counts o some
       (ap (λ (v : View). receives v.state) is ∙ receives_in (seen_before t w place me).state receives'))
 
@@ -411,7 +411,7 @@ module _ (t : Trace) (w : Witness) (slack : ℕ) (r : Run t.header slack (length
   expiries_followed plain place moment me a =
       subst (λ (m : ℕ). IsDoneBy t w place m me SendsOldest) (let e : moment + 0 + slack ≡ moment + slack = omega arith in e)
       (arises me (λ o. o.retransmit) 0 SendsOldest (λ l. l.retransmit) retransmit_duty (plain_same (λ l. l.retransmit) t.header slack plain)
-      (λ is as plain rest. ap (λ (o : Owed). o.retransmit) rest) place moment (Expires Rto) a
+      (λ is like plain rest. ap (λ (o : Owed). o.retransmit) rest) place moment (Expires Rto) a
       (λ before after moment listener counts o is now at old. retransmit_begins before after moment listener counts o))
 
   -- and one of the persist timer by any segment
@@ -419,13 +419,13 @@ module _ (t : Trace) (w : Witness) (slack : ℕ) (r : Run t.header slack (length
   probes_sent plain place moment me a =
       subst (λ (m : ℕ). IsDoneBy t w place m me SendsAnything) (let e : moment + 0 + slack ≡ moment + slack = omega arith in e)
       (arises me (λ o. o.probe) 0 SendsAnything (λ l. l.retransmit) probe_duty (plain_same (λ l. l.retransmit) t.header slack plain)
-      (λ is as plain rest. ap (λ (o : Owed). o.probe) rest) place moment (Expires Persist) a
+      (λ is like plain rest. ap (λ (o : Owed). o.probe) rest) place moment (Expires Persist) a
       (λ before after moment listener counts o is now at old. probe_begins before after moment listener counts o))
 
   -- work is begun
   pub work_begun : WorkIsBegun t w slack
   work_begun place moment me event a idle =
       arises me (λ o. o.start) longest_wait IsNotIdle (λ l. l.start) start_duty (start_same t.header slack)
-      (λ is as plain rest. ap (λ (o : Owed). o.start) rest) place moment event a
+      (λ is like plain rest. ap (λ (o : Owed). o.start) rest) place moment event a
       (λ before after moment listener counts o is now at old. start_begins event before after moment listener counts o
       (ap is_idle_with_work now ∙ idle_is (seen_before t w (suc place) me) idle))

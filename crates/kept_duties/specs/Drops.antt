@@ -4,6 +4,8 @@ use Rattle.std.specs.Prelude.{◌≡◌, ◌⊎◌, ◌+◌, ◌<◌, ◌≤◌,
 use Rattle.seqno.specs.Near.{near_position}
 use Rattle.seqno.specs.Numbers.{number_of}
 use Rattle.seqno.specs.declared.word.Word.{Word}
+use Rattle.segment.specs.Reading.{timestamps}
+use Rattle.segment.specs.declared.options.TimestampPair.{TimestampPair}
 use Rattle.case_forms.specs.States.{is_syn_sent}
 use Rattle.case_forms.specs.Versions.{is_half, says_sender}
 use Rattle.case_forms.specs.declared.calls.Host.{Host}
@@ -29,6 +31,8 @@ use Rattle.spec_tcp.specs.declared.endpoint.Emission.{Emission}
 use Rattle.spec_tcp.specs.declared.endpoint.Endpoint.{Endpoint}
 use Rattle.spec_tcp.specs.declared.endpoint.Listener.{Listener}
 use Rattle.spec_duties.specs.Watching.{listening_at}
+use Rattle.spec_flights.specs.Clocks.{Clocks, are_stamped, is_older}
+use Rattle.spec_flights.specs.Flights.{flight_at}
 use Rattle.kept_duties.specs.Happens.{known_before, world_before}
 use Rattle.kept_duties.specs.Places.{IsStep}
 
@@ -55,6 +59,24 @@ answering_breaks t w place host line =
 abbrev pub IsNext : Endpoint → Emission → Type 0
 IsNext e m = (irs : Word) × (e.irs ≡ Some irs) × (same_word m.seq (number_of irs (rcv_nxt e)) ≡ true)
 
+-- what an endpoint of a host knows of timestamps
+abbrev pub clocks_before : Trace → Witness → (place : ℕ) → Host → (endpoint : ℕ) → Clocks
+clocks_before t w place host endpoint = (flight_at (known_before t w place).flights host endpoint).clocks
+
+-- in version 6, both SYNs had timestamps, and the segment has none, or its clock is older than the newest that came
+-- (PAWS: RFC 7323, 3.2 and 5.3, R1)
+pub record IsMistimed (t : Trace) (w : Witness) (place : ℕ) (host : Host) (m : Emission) : Type 0 where
+  pub at : ℕ
+  pub endpoint : Endpoint
+  pub comes : taker (host_before t w place host) m ≡ AtEndpoint at endpoint
+  pub six : says_sender t.header.version ≡ true
+  pub knows : is_syn_sent endpoint.state ≡ false
+  pub no_reset : m.flags.rst ≡ false
+  pub stamped : are_stamped (clocks_before t w place host at) ≡ true
+  pub fails : (timestamps m.bytes ≡ None)
+      ⊎ ((stamps : TimestampPair) × (newest : Word) × (timestamps m.bytes ≡ Some stamps)
+      × ((clocks_before t w place host at).most ≡ Some newest) × (is_older stamps.value newest ≡ true))
+
 -- what could be processed need not be: a reset that isn't next is challenged (RFC 5961, 3.2), or what doesn't fit meets
 -- a closed receive window (RFC 9293, 3.10.7.4, first); or the listener's backlog is reached (3.9.1.2)
 pub data IsDroppable (t : Trace) (w : Witness) (place : ℕ) (host : Host) (m : Emission) : Type 0 where
@@ -66,6 +88,7 @@ pub data IsDroppable (t : Trace) (w : Witness) (place : ℕ) (host : Host) (m : 
   AcknowledgesLess : (i : ℕ) (e : Endpoint) → says_sender t.header.version ≡ true
       → taker (host_before t w place host) m ≡ AtEndpoint i e → m.flags.ack ≡ true → m.flags.rst ≡ false
       → (as_read t.header.version e m).ack < e.stream.snd_una → IsDroppable t w place host m
+  ByClock : IsMistimed t w place host m → IsDroppable t w place host m
   ByListener : (l : ℕ) (x : Listener) → taker (host_before t w place host) m ≡ AtListener l
       → slice_get (host_before t w place host).listeners l ≡ Some x → x.backlog ≤ children_before t w place host l
       → IsDroppable t w place host m
@@ -89,10 +112,10 @@ pub record MayBeDropped (t : Trace) (w : Witness) (place moment : ℕ) (host : H
   pub processing : (is_some (processing_breaks t w place moment host line) ≡ true)
       ⊎ IsDroppable t w place host segment
   -- to answer it with a reset would break one, or the segment is unacceptable or an old one, so that an acknowledgment
-  -- is as good
+  -- is as good; or timestamps forbid to process it
   pub answering : (is_some (answering_breaks t w place host line) ≡ true)
       ⊎ (processing_breaks t w place moment host line ≡ Some Unacceptable)
-      ⊎ HasOldNumber t w place host segment
+      ⊎ HasOldNumber t w place host segment ⊎ IsMistimed t w place host segment
 
 -- each `K` step drops a segment that may be dropped
 abbrev pub DropsAreLawful : Trace → Witness → Type 0

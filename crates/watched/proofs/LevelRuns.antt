@@ -401,7 +401,8 @@ known_kept j h moment k step le is =
     (shown (header_by j h) moment (known_judged j h k) step)) seen.1
     ∙ ap (λ (w : World tcp_shape). known w (observed_with seen.0 (observe h moment k.model step)) (shown (header_by j h) moment (known_judged j h k) step))
     world
-    ∙ ap (λ (fs : Flights). triple fs (noted_by (header_by j h) moment (world_judged j h now) (shown (header_by j h) moment (known_judged j h k) step) k.duties))
+    ∙ ap (λ (fs : Flights). triple fs
+    (noted_by (header_by j h) moment (world_judged j h now) (shown (header_by j h) moment (known_judged j h k) step) k.duties))
     (flown_same j h moment now seen.0 (observe h moment k.model step) k.flights)
     ∙ ap (triple (flown h moment now (observe h moment k.model step) k.flights)) (
     ap (λ (s : Observation). noted_by (header_by j h) moment (world_judged j h now) s k.duties) (shown_with j h moment k step seen.0 seen.1)

@@ -344,7 +344,15 @@ fn judge_line(
         | TakenLine::Came { .. }
         | TakenLine::Heard { .. } => {
             let seen = observe_line(world, moment, &taken);
-            watch_step(world, flights, duties, moment, taken, &seen, refused(None, &seen))
+            watch_step(
+                world,
+                flights,
+                duties,
+                moment,
+                taken,
+                &seen,
+                refused(None, &seen),
+            )
         }
     }
 }
@@ -370,7 +378,15 @@ fn judge_hidden(
     match *step {
         Hidden::Effect { thread, answer } => {
             let seen = observe_effect(world, moment, thread, answer);
-            watch_step(world, flights, duties, moment, *step, &seen, refused(None, &seen))
+            watch_step(
+                world,
+                flights,
+                duties,
+                moment,
+                *step,
+                &seen,
+                refused(None, &seen),
+            )
         }
         Hidden::Build { host, plan } => {
             let seen = observe_making(world, host, plan, moment);
@@ -387,7 +403,15 @@ fn judge_hidden(
         }
         Hidden::Process { host, line, choice } => {
             let seen = observe_taking(world, host, line, choice, moment);
-            watch_step(world, flights, duties, moment, *step, &seen, refused(None, &seen))
+            watch_step(
+                world,
+                flights,
+                duties,
+                moment,
+                *step,
+                &seen,
+                refused(None, &seen),
+            )
         }
         Hidden::Recover { .. } => {
             let seen = observe_hidden(world, moment, step);
@@ -405,11 +429,27 @@ fn judge_hidden(
         Hidden::Drop { .. } => {
             let seen = observe_hidden(world, moment, step);
             let shown = flights.excused(world.header(), &seen);
-            watch_step(world, flights, duties, moment, *step, &seen, refused(None, &shown))
+            watch_step(
+                world,
+                flights,
+                duties,
+                moment,
+                *step,
+                &seen,
+                refused(None, &shown),
+            )
         }
         Hidden::Reset { .. } => {
             let seen = observe_hidden(world, moment, step);
-            watch_step(world, flights, duties, moment, *step, &seen, refused(None, &seen))
+            watch_step(
+                world,
+                flights,
+                duties,
+                moment,
+                *step,
+                &seen,
+                refused(None, &seen),
+            )
         }
     }
 }
