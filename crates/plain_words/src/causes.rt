@@ -99,8 +99,14 @@ pub enum Known {
     ProbeReported,
     /// The timer is pto, and expires too early.
     ProbeEarly,
-    /// The step undoes a recovery.
-    IsUndone,
+    /// The step undoes a recovery, but none began since the last one was undone.
+    NothingToUndo,
+    /// The step undoes a recovery, in which nothing was sent again.
+    UndoneUnsent,
+    /// The step undoes a recovery, and all is acknowledged that was sent before it.
+    UndoneAtEnd,
+    /// The step undoes a recovery, and none of these is known.
+    UndoneNeeded,
     /// The segment acknowledges nothing new, or is a reset.
     NothingNew,
     /// The timer is rto, and expires on time, or the segment comes at that time, if a new acknowledgment didn't restart
@@ -135,6 +141,9 @@ pub enum Known {
     NothingLater,
     /// Both SYNs permitted SACK, and fast recovery begins before the last recovery ended.
     StillRecovers,
+    /// Both SYNs permitted SACK, and a recovery that may be undone keeps fast recovery from beginning, or the timer pto
+    /// from expiring.
+    NotUndone,
 }
 
 impl Known {
@@ -216,7 +225,15 @@ didn't build",
 there, or has it later",
             Known::GiveupOff =>
                 "the stack gives up after fewer than three expiries, or with nothing outstanding",
-            Known::IsUndone => "the witness undoes a recovery, which the model doesn't permit",
+            Known::NothingToUndo => "the witness undoes a recovery twice, or one that didn't begin",
+            Known::UndoneUnsent =>
+                "the stack undoes a recovery before anything is sent again that an acknowledgment could answer",
+            Known::UndoneAtEnd =>
+                "all was acknowledged at once, which without an earlier timestamp (RFC 3522, 3.2) doesn't show that \
+the recovery wasn't needed (RFC 5682, 3)",
+            Known::UndoneNeeded =>
+                "the stack undoes a recovery though no acknowledgment echoes an earlier timestamp (RFC 3522, 3.2), or \
+delivers after a timeout what was sent before it (RFC 5682, 3)",
             Known::ProbeOfSyn =>
                 "the stack probes for the loss of a SYN; probes are for data (RFC 8985, 7.2)",
             Known::ProbeIdle =>
@@ -262,6 +279,7 @@ line)",
                 "the stack retransmits data that isn't lost, or the trace lacks the expiry (a `T` line)",
             Known::StillRecovers =>
                 "the stack begins fast recovery before the last recovery ends (RFC 6675, 5)",
+            Known::NotUndone => "the witness lacks the U step of a recovery that wasn't needed",
         }
     }
 
@@ -278,7 +296,7 @@ line)",
             Known::BelowMinimum | Known::PersistEarly => COARSE_CLOCK,
             Known::Msl2Early | Known::ProbeEarly => COARSE_CLOCK,
             Known::Reported => "the stack processed the SACK blocks later than the capture shows",
-            Known::SentTwice | Known::ProbeAgain => LOST_ACK,
+            Known::SentTwice | Known::ProbeAgain | Known::UndoneNeeded => LOST_ACK,
             Known::TailProbe | Known::NothingLater => LOST_ACK,
             Known::NotLostYet => COARSE_CLOCK,
             _ => "",

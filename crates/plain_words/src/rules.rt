@@ -318,6 +318,7 @@ too early",
                 Known::ProbeOfSyn,
                 Known::ProbeIdle,
                 Known::ProbePlain,
+                Known::NotUndone,
                 Known::ProbeRecovers,
                 Known::ProbeTwice,
                 Known::ProbeReported,
@@ -341,16 +342,20 @@ too early",
             rfc: "6298, 2, 4, 5; 9293, 3.6.1, 3.8.6.1; 8985, 7.2",
         },
         Rule::Recovery => &Meaning {
-            refused: "fast recovery begins where it may not",
+            refused: "fast recovery begins, or a recovery is undone, where it may not",
             usual: "the stack began after fewer than three duplicate acknowledgments (early retransmit, or SACK before \
 version 6)",
             special: &[
                 Known::NothingOutstanding,
-                Known::IsUndone,
+                Known::NothingToUndo,
+                Known::UndoneUnsent,
+                Known::UndoneAtEnd,
+                Known::UndoneNeeded,
+                Known::NotUndone,
                 Known::StillRecovers,
                 Known::NotLostYet,
             ],
-            rfc: "5681, 2, 3.2 (steps 2 to 4); 4015, 3.2",
+            rfc: "5681, 2, 3.2 (steps 2 to 4); 3522, 3.2; 4015, 3.2; 5682, 3",
             ..PLAIN
         },
         Rule::ScaleUnread => &Meaning {
@@ -370,7 +375,7 @@ version 6)",
 the witness \
 drops it to explain later lines",
             captured: "the segment was recorded below a firewall or a full buffer, and TCP never received it",
-            rfc: "9293, 3.10.7; 5961, 3.2",
+            rfc: "9293, 3.10.7; 5961, 3.2; 7323, 3.2, 5.3",
             ..PLAIN
         },
         Rule::Discarded => &Meaning {

@@ -4,7 +4,7 @@ use crate::arrivals::Reset;
 use crate::found::Found;
 use crate::notes::{Again, Note, Permit};
 use crate::sendings::Sending;
-use case_forms::{Call, Event, Extras, Host, Label, NamedLine, OutOfMemory, Step};
+use case_forms::{Call, Event, Extras, Host, Label, NamedLine, OutOfMemory, RecoveryChange, Step};
 use endpoint_state::World;
 use replayed::{Case, Replay, ReplayFault, socket_of};
 use spec_tcp::{Endpoint, EndpointId, SocketTarget};
@@ -121,12 +121,12 @@ impl Review<'_> {
             Label::R { host, line } => {
                 self.arrive(world, *host, *line)?;
             }
-            Label::F { host, recovery } => {
+            Label::F { host, recovery } if recovery.change == RecoveryChange::Begins => {
                 if let Some((id, _)) = endpoint_of(world, *host, recovery.lport, recovery.rport) {
                     self.note(id)?.permits.add(Permit::Recovery);
                 }
             }
-            Label::L(_) => {}
+            Label::F { .. } | Label::L(_) => {}
         }
         replay.apply(step)?;
         if let Label::L(named) = &step.label {

@@ -7,6 +7,7 @@ use crate::other_windows::say_fitting;
 use crate::probes::{is_known_of_probe, is_tail};
 use crate::scene::{Building, Expiring, Object, Processing, Scene};
 use crate::sendable::sendable_bytes;
+use crate::undoing::{is_known_of_undoing, may_be_undone};
 use crate::{resets, wire};
 use case_forms::{Call, Extras, Judged, OutOfMemory, RecoveryChange, Timer, Version, Wire};
 use endpoint::{acknowledges, greatest_values};
@@ -64,7 +65,7 @@ fn is_known(scene: &Scene, known: Known) -> bool {
         Object::Listening(..) => matches!(known, Known::Processing | Known::NothingNew),
         Object::Recovering(endpoint, it) => match it.change {
             RecoveryChange::Begins => is_known_of_recovery(scene, endpoint, is_none, known),
-            RecoveryChange::IsUndone => known == Known::IsUndone,
+            RecoveryChange::IsUndone => is_known_of_undoing(scene, endpoint, known),
         },
         Object::Other if scene.builds() => is_known_of_reset(scene, known),
         Object::Other => match known {
@@ -80,6 +81,9 @@ fn is_known(scene: &Scene, known: Known) -> bool {
 // Whether this is known where fast recovery begins. `is_none`: the level is `none`.
 fn is_known_of_recovery(scene: &Scene, endpoint: &Endpoint, is_none: bool, known: Known) -> bool {
     match scene.standing {
+        Some(standing) if known == Known::NotUndone => {
+            standing.recovers_upto.is_some() && may_be_undone(scene)
+        }
         Some(standing) => is_known_of_beginning(endpoint.control.values.dup, standing, known),
         None => known == Known::NothingOutstanding && is_none,
     }

@@ -14,8 +14,8 @@
 //! - `described`: an endpoint in words; `owed`: what it owes; `inbox`: a received segment in words
 //! - `order`, `calls`, `builds`, `wire`, `arrivals`, `numbers`, `timers`: what the rules compare; `late`, `limits`:
 //!   the same for duties
-//! - `losses`: what is known of losses if both SYNs permitted SACK; `probes`: the same for probes; `reported`: which
-//!   SACK blocks aren't true
+//! - `losses`: what is known of losses if both SYNs permitted SACK; `probes`: the same for probes; `undoing`: which
+//!   recovery is undone; `reported`: which SACK blocks aren't true
 //! - `allowed`: the answers that a call may have
 //! - `known`: what is known at the step of the causes of its rule
 //! - `other_windows`, `segment_window`, `loss_windows`, `changes`: the other windows that a segment would fit, kept
@@ -53,6 +53,7 @@ mod segment_window;
 mod sendable;
 mod states;
 mod timers;
+mod undoing;
 mod unjudged;
 mod wire;
 mod wrap;

@@ -2,6 +2,7 @@
 
 use crate::scene::{Building, Expiring, Scene};
 use crate::timers::handshake;
+use crate::undoing::{may_be_undone, say_undoable};
 use case_forms::OutOfMemory;
 use endpoint_state::Endpoint;
 use flights::{ProbeStanding, ProbeWait, Standing};
@@ -24,7 +25,13 @@ pub(crate) fn off(out: &mut String, scene: &Scene, it: Expiring) -> Result<(), O
         );
     }
     match standing_of(scene) {
-        Some(standing) => say_kept(out, endpoint, standing),
+        Some(standing) => {
+            say_kept(out, endpoint, standing)?;
+            match standing {
+                ProbeStanding::Recovers(_) => say_undoable(out, scene),
+                _ => Ok(()),
+            }
+        }
         None => Ok(()),
     }
 }
@@ -137,6 +144,7 @@ pub(crate) fn is_known_of_probe(scene: &Scene, it: Expiring, known: Known) -> bo
     }
     let found = match standing_of(scene) {
         Some(ProbeStanding::Plain { .. }) => Known::ProbePlain,
+        Some(ProbeStanding::Recovers(_)) if may_be_undone(scene) => Known::NotUndone,
         Some(ProbeStanding::Recovers(_)) => Known::ProbeRecovers,
         Some(ProbeStanding::Due | ProbeStanding::Out(_)) => Known::ProbeTwice,
         Some(ProbeStanding::Reported(_)) => Known::ProbeReported,

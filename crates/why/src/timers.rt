@@ -1,10 +1,10 @@
 //! The rules of expiries and of fast recovery.
 
 use crate::losses::say_loss;
-use crate::probes;
 use crate::scene::{Expiring, Scene};
 use crate::sendable::say_sendable;
 use crate::states::say_way_out;
+use crate::{probes, undoing};
 use case_forms::{Extras, OutOfMemory, Recovery, RecoveryChange, Timer};
 use endpoint::{greatest_recovery, greatest_values};
 use endpoint_state::Endpoint;
@@ -146,16 +146,14 @@ pub(crate) fn recovery(
     it: Recovery,
 ) -> Result<(), OutOfMemory> {
     if it.change == RecoveryChange::IsUndone {
-        return out.push_str(
-            "no endpoint of the model detects a spurious recovery (RFC 3522, 5682)\n",
-        );
+        return undoing::say_needed(out, scene, endpoint);
     }
     let profile = endpoint.control.profile;
     if !profile.counts_duplicates() {
         return out.push_str("in flight: 0; fast recovery begins only if something is in flight\n");
     }
     match scene.standing {
-        Some(standing) => say_needed(out, scene.header().grain, endpoint, standing)?,
+        Some(standing) => say_needed(out, scene, endpoint, standing)?,
         None => say_duplicates(out, endpoint)?,
     }
     if profile.bounds_windows() {
@@ -183,16 +181,17 @@ fn say_duplicates(out: &mut String, endpoint: &Endpoint) -> Result<(), OutOfMemo
 // What lets fast recovery begin if both SYNs permitted SACK.
 fn say_needed(
     out: &mut String,
-    grain: u64,
+    scene: &Scene,
     endpoint: &Endpoint,
     standing: Standing,
 ) -> Result<(), OutOfMemory> {
     if let Some(upto) = standing.recovers_upto {
         let una = endpoint.stream.snd_una;
-        return writeln!(
+        writeln!(
             out,
             "the last recovery hasn't ended: it ends once all below {upto} is acknowledged, and SND.UNA is {una}"
-        );
+        )?;
+        return undoing::say_undoable(out, scene);
     }
     let (dup, flight) = (endpoint.control.values.dup, endpoint.flight());
     writeln!(
@@ -203,7 +202,7 @@ fn say_needed(
         return Ok(());
     }
     out.push_str("first in flight: ")?;
-    say_loss(out, grain, standing)
+    say_loss(out, scene.header().grain, standing)
 }
 
 fn recovery_windows(

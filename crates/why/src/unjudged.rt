@@ -2,7 +2,7 @@
 
 use crate::losses::may_begin;
 use crate::scene::{Object, Scene};
-use case_forms::{Judged, OutOfMemory, Version};
+use case_forms::{Judged, OutOfMemory, RecoveryChange, Version};
 use endpoint_state::Endpoint;
 use plain_words::{Control, LEVEL_RULES, word_if};
 use replayed::{Reason, old_data_reason};
@@ -59,7 +59,11 @@ fn lenient_level(scene: &Scene, rule: Rule) -> Option<Judged> {
             Reason::Again { .. } if it.endpoint.is_up() => Some(Judged::NoControl),
             _ => None,
         },
-        (Control::Retransmission, Object::Recovering(endpoint, _)) => at_recovery(scene, endpoint),
+        // Whether a recovery may be undone is judged at every level.
+        (Control::Retransmission, Object::Recovering(endpoint, it)) => match it.change {
+            RecoveryChange::Begins => at_recovery(scene, endpoint),
+            RecoveryChange::IsUndone => None,
+        },
         _ => None,
     }
 }

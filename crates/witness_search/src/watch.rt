@@ -5,10 +5,10 @@ ghost use Rattle.std.specs.Prelude.{◌<◌};
 ghost use Rattle.spec_tcp.specs.Bounds.{most_steps};
 ghost use Rattle.spec_step.specs.Acts.{IsSmall};
 
-use case_forms::TakenLine;
-use duties::Duties;
+use case_forms::{Host, TakenLine};
+use duties::{Duties, view_of};
 use endpoint_state::{StepFault, World};
-use flights::Flights;
+use flights::{Flights, ProbeStanding};
 use spec_duties::{Observation, View};
 use spec_step::{Hidden, ModelStep};
 use std::alloc::Global;
@@ -30,6 +30,39 @@ impl Beside {
             duties: Duties::start(alloc),
         }
     }
+
+    /// Whether the endpoint of a host at a place recovers from a loss, and this may be undone. Both SYNs permitted
+    /// selective acknowledgments.
+    pub(crate) fn may_undo(&self, world: &World, host: Host, place: u32) -> bool {
+        let Some(endpoint) = world.body(host).endpoint_at(place) else {
+            return false;
+        };
+        let view = view_of(endpoint);
+        let standing = self
+            .flights
+            .probe_standing(world.header(), host, place, &view);
+        matches!(standing, Some(ProbeStanding::Recovers(_)))
+            && self.flights.is_spurious(host, place)
+    }
+}
+
+// What is seen of a step.
+#[derive(Clone, Copy)]
+struct Sight<'s> {
+    seen: &'s Observation,
+    /// The same as duties see it: what is dropped may be excused.
+    shown: &'s Observation,
+    /// Whether the step sends a selective acknowledgment that isn't true.
+    untrue: bool,
+}
+
+// What is seen of a step that drops no segment.
+fn plain(seen: &Observation, untrue: bool) -> Sight<'_> {
+    Sight {
+        seen,
+        shown: seen,
+        untrue,
+    }
 }
 
 /// When a step is done, and how it is judged.
@@ -44,20 +77,14 @@ pub(crate) struct Watch {
 }
 
 impl Watch {
-    // The rule of a duty that a step breaks. `untrue`: it sends a selective acknowledgment that isn't true. None: it
-    // breaks none.
-    fn broken(
-        self,
-        world: &World,
-        duties: &Duties,
-        untrue: bool,
-        seen: &Observation,
-    ) -> Option<Rule> {
+    // The rule of a duty that a step breaks. None: it breaks none.
+    fn broken(self, world: &World, duties: &Duties, sight: Sight<'_>) -> Option<Rule> {
+        let untrue = sight.untrue;
         let Some(slack) = self.slack else {
             return if untrue { Some(Rule::SackUntrue) } else { None };
         };
         duties
-            .admits(world.header(), slack, self.moment, untrue, seen)
+            .admits(world.header(), slack, self.moment, untrue, sight.shown)
             .err()
     }
 
@@ -73,18 +100,18 @@ impl Watch {
         world: &World,
         beside: &Beside,
         step: &S,
-        untrue: bool,
-        seen: &Observation,
+        sight: Sight<'_>,
     ) -> Result<Option<Rule>, Rule>
         requires steps { world.now.steps < most_steps }
         requires small { S.is_small step.now }
     {
-        if let Some(refused) = beside.flights.refusal(world.header(), self.moment, seen) {
-            return Err(earlier(step.admits(world, self.moment), refused));
+        let (header, moment) = (world.header(), self.moment);
+        if let Some(refused) = beside.flights.refusal(header, moment, sight.seen) {
+            return Err(earlier(step.admits(world, moment), refused));
         }
-        let broken = self.broken(world, &beside.duties, untrue, seen);
+        let broken = self.broken(world, &beside.duties, sight);
         if let Some(rule) = broken {
-            self.permits(rule, step.admits(world, self.moment))?;
+            self.permits(rule, step.admits(world, moment))?;
         }
         Ok(broken)
     }
@@ -114,19 +141,18 @@ impl Watch {
         world: &mut World,
         beside: &mut Beside,
         step: S,
-        untrue: bool,
-        seen: &Observation,
+        sight: Sight<'_>,
     ) -> Result<Option<Rule>, StepFault>
         requires steps { world.old.steps < most_steps }
         requires small { S.is_small step }
     {
-        let broken = self.judge(world, beside, &step, untrue, seen)?;
+        let broken = self.judge(world, beside, &step, sight)?;
         step.apply(world, self.moment)?;
-        let now = view_in(world, &seen.touched);
+        let now = view_in(world, &sight.seen.touched);
         beside
             .flights
-            .note(world.header(), self.moment, seen, &now)?;
-        self.note_duties(world, &mut beside.duties, seen, &now)?;
+            .note(world.header(), self.moment, sight.seen, &now)?;
+        self.note_duties(world, &mut beside.duties, sight.shown, &now)?;
         Ok(broken)
     }
 
@@ -142,7 +168,7 @@ impl Watch {
     {
         let seen = observe_line(world, self.moment, &line);
         let untrue = untrue_at(world, &beside.flights, &line);
-        self.step(world, beside, line, untrue, &seen)
+        self.step(world, beside, line, plain(&seen, untrue))
     }
 
     /// Does a step that takes none, in the same way.
@@ -156,7 +182,15 @@ impl Watch {
         requires small { IsSmall step }
     {
         let seen = observe_hidden(world, self.moment, &step);
-        self.step(world, beside, step, false, &seen)
+        if seen.dropping.is_none() {
+            return self.step(world, beside, step, plain(&seen, false));
+        }
+        let shown = beside.flights.excused(world.header(), &seen);
+        let sight = Sight {
+            shown: &shown,
+            ..plain(&seen, false)
+        };
+        self.step(world, beside, step, sight)
     }
 }
 

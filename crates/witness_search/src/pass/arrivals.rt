@@ -88,21 +88,38 @@ impl Progress {
         Ok(true)
     }
 
-    // Processes an arrival. If a duty requires it to be kept, or its round trip to be measured, that is done.
-    fn take_as_due(&mut self, host: Host, line: u64, choice: TakeChoice) -> Result<(), Stop> {
+    // Processes an arrival. If a duty requires it to be kept, or its round trip to be measured, that is done; but what
+    // isn't kept is dropped if that's permitted. The result is whether it was processed.
+    fn take_as_due(&mut self, host: Host, line: u64, choice: TakeChoice) -> Result<bool, Stop> {
         let mut due = choice;
         for _ in 0..DUE {
             match self.take(host, line, due, Will::Try) {
-                Err(Stop::Broken(Rule::Discarded)) if !self.log.forgives => due.keep = true,
+                Err(Stop::Broken(Rule::Discarded)) if !self.log.forgives => {
+                    if self.drops_instead(host, line)? {
+                        return Ok(false);
+                    }
+                    due.keep = true;
+                }
                 Err(Stop::Broken(Rule::SampleDue)) => due.sample = true,
                 Err(Stop::Broken(_)) => break,
-                done => return done,
+                Ok(()) => return Ok(true),
+                Err(stop) => return Err(stop),
             }
         }
-        self.take(host, line, due, Will::Insist)
+        self.take(host, line, due, Will::Insist)?;
+        Ok(true)
     }
 
-    // Processes an arrival of which nothing is kept. The result is whether that's permitted.
+    // Drops an arrival that may not be processed without being kept. From version 6 on, that's permitted if its
+    // acknowledgment or its timestamp is too old (RFC 5961, 5.2; RFC 7323, 5.3). The result is whether it was dropped.
+    fn drops_instead(&mut self, host: Host, line: u64) -> Result<bool, Stop> {
+        if !self.world().header().version.says_sender() {
+            return Ok(false);
+        }
+        Ok(permitted(self.drop_arrival(host, line, Will::Try))?.is_some())
+    }
+
+    // Processes an arrival of which nothing is kept, or drops it. The result is whether one of these is permitted.
     fn try_discarding(&mut self, host: Host, line: u64) -> Result<bool, Stop> {
         let how = Arrival {
             is_not_kept: true,
@@ -111,11 +128,11 @@ impl Progress {
         let Some(Processing { key, choice, ack }) = self.processing(host, line, how) else {
             return Ok(false);
         };
-        let is_done = self.try_taking(host, line, choice)?;
-        if is_done {
+        if self.try_taking(host, line, choice)? {
             self.acknowledge(key, ack);
+            return Ok(true);
         }
-        Ok(is_done)
+        self.drops_instead(host, line)
     }
 
     // Processes an arrival, and measures its round trip if a duty requires that. The result is whether that's
@@ -301,7 +318,7 @@ impl<'t> Pass<'t> {
     }
 
     /// A mere acknowledgment is built next. In version 6, it answers only what was processed before. So what is late at
-    /// its endpoint is processed now, if nothing of it is kept.
+    /// its endpoint is processed now, if nothing of it is kept, or dropped.
     pub(crate) fn discard_late(&mut self, key: EndpointKey) -> Result<(), Stop> {
         for _ in 0..self.late.count(key) {
             let Some(waiting) = self.late.first(key) else {
@@ -467,9 +484,10 @@ impl<'t> Pass<'t> {
         let Some(Processing { key, choice, ack }) = self.progress.processing(host, line, how) else {
             return Ok(false);
         };
-        self.progress.take_as_due(host, line, choice)?;
-        self.progress.acknowledge(key, ack);
-        self.wake_receiver(key)?;
+        if self.progress.take_as_due(host, line, choice)? {
+            self.progress.acknowledge(key, ack);
+            self.wake_receiver(key)?;
+        }
         Ok(true)
     }
 

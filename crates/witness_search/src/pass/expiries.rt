@@ -44,30 +44,67 @@ impl Progress {
         if self.log.expiries.of_host(key.host()) {
             return Ok(false);
         }
+        self.undo_before(key, timer)?;
         let expired = self.greatest_expiry(key, timer);
         Ok(permitted(self.add_line(key, expired))?.is_some())
     }
 
-    /// Fast recovery begins with the greatest values, if that's permitted. The result is whether it did.
-    pub(crate) fn try_recovery(&mut self, key: EndpointKey) -> Result<bool, Stop> {
-        let Some(endpoint) = self.endpoint(key) else {
-            return Ok(false);
-        };
-        let (cwnd, ssthresh) = greatest_at_recovery(endpoint, self.moment());
-        let recovery = Recovery {
-            change: RecoveryChange::Begins,
+    // Fast recovery begins or is undone with the greatest values. None: there is no such endpoint.
+    fn greatest_recovery(&self, key: EndpointKey, change: RecoveryChange) -> Option<Recovery> {
+        let (cwnd, ssthresh) = greatest_at_recovery(self.endpoint(key)?, self.moment());
+        Some(Recovery {
+            change,
             lport: key.lport,
             rport: key.rport,
             cwnd: saturated(cwnd),
             ssthresh: saturated(ssthresh),
-        };
-        Ok(permitted(self.recover(key, recovery))?.is_some())
+        })
+    }
+
+    /// Fast recovery begins with the greatest values, if that's permitted. If an earlier recovery, which may be undone,
+    /// keeps it from beginning after three duplicate acknowledgments, that is undone first. The result is whether it
+    /// began.
+    pub(crate) fn try_recovery(&mut self, key: EndpointKey) -> Result<bool, Stop> {
+        if self.try_beginning(key)? {
+            return Ok(true);
+        }
+        let endpoint = self.endpoint(key);
+        let is_repeated = endpoint.is_some_and(|endpoint| 2 < endpoint.control.values.dup);
+        Ok(is_repeated && self.try_undo(key)? && self.try_beginning(key)?)
+    }
+
+    // Fast recovery begins, if that's permitted. The result is whether it did.
+    fn try_beginning(&mut self, key: EndpointKey) -> Result<bool, Stop> {
+        match self.greatest_recovery(key, RecoveryChange::Begins) {
+            Some(recovery) => Ok(permitted(self.recover(key, recovery))?.is_some()),
+            None => Ok(false),
+        }
+    }
+
+    // A recovery is undone that is going on, if it wasn't needed. The result is whether it was undone.
+    fn try_undo(&mut self, key: EndpointKey) -> Result<bool, Stop> {
+        if !self.may_undo(key) {
+            return Ok(false);
+        }
+        match self.greatest_recovery(key, RecoveryChange::IsUndone) {
+            Some(recovery) => Ok(permitted(self.undo(key, recovery))?.is_some()),
+            None => Ok(false),
+        }
+    }
+
+    // A recovery keeps an endpoint from probing for a loss, so it is undone first if that's permitted.
+    fn undo_before(&mut self, key: EndpointKey, timer: Timer) -> Result<(), Stop> {
+        if let Timer::Pto = timer {
+            self.try_undo(key)?;
+        }
+        Ok(())
     }
 }
 
 impl Pass<'_> {
     /// The current line shows that a timer expired.
     pub(crate) fn expire_shown(&mut self, key: EndpointKey, timer: Timer) -> Result<(), Stop> {
+        self.progress.undo_before(key, timer)?;
         let expired = self.progress.greatest_expiry(key, timer);
         self.progress.expire(key, expired)?;
         self.wake_endpoint(key)

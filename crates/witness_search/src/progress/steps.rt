@@ -284,6 +284,23 @@ impl Progress {
         Ok(self.log.ways.recover(key, max)?)
     }
 
+    /// Whether an endpoint recovers from a loss, and this may be undone.
+    pub(crate) fn may_undo(&self, key: EndpointKey) -> bool {
+        let host = key.host();
+        match self.world.body(host).place_of(key.lport, key.rport) {
+            Some(place) => self.beside.may_undo(&self.world, host, place),
+            None => false,
+        }
+    }
+
+    /// An endpoint undoes its recovery.
+    pub(crate) fn undo(&mut self, key: EndpointKey, recovery: Recovery) -> Result<(), Stop> {
+        let host = key.host();
+        self.hidden(Hidden::Recover { host, recovery }, Will::Try)?;
+        self.log.ways.undo(key);
+        Ok(())
+    }
+
     /// An endpoint processed an acknowledgment of what is below a position.
     pub(crate) fn acknowledge(&mut self, key: EndpointKey, ack: u64) {
         self.log.ways.acknowledge(key, ack);

@@ -90,7 +90,7 @@ impl Recoveries {
         }
     }
 
-    /// A timeout ends fast recovery.
+    /// A timeout ends fast recovery, or it is undone.
     pub(crate) fn end(&mut self, at: EndpointKey) {
         self.0.remove(&at);
     }

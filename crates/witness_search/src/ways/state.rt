@@ -61,6 +61,11 @@ impl WayState {
         self.recoveries.begin(way, at, max)
     }
 
+    /// An endpoint undoes its recovery.
+    pub(crate) fn undo(&mut self, at: EndpointKey) {
+        self.recoveries.end(at);
+    }
+
     /// The retransmission timer of an endpoint expires.
     pub(crate) fn expire(&mut self, at: EndpointKey) {
         self.recoveries.end(at);
