@@ -22,7 +22,8 @@ from . import test_command
 from .test_command import run
 
 # Saves its arguments and the trace, and a case and a picture if requested; `judge` prints the answer that the test
-# chose, which may be another one for a trace of version 6. Before that, the commands check that it has `judge`, without other arguments and with an empty trace.
+# chose, which may be another one for a trace of version 6. Before that, the commands check that it has `judge`, without
+# other arguments and with an empty trace.
 SCRIPT = """#!/bin/sh
 [ "$*" = judge ] && {known}
 echo "$@" >> {folder}/words

@@ -291,23 +291,33 @@ class Judge:
             self.judge_levels(number, given, found, Notes())
 
     def judge_levels(self, number, given, found, notes, gives_up=False):
-        """Judges a connection in the runs that its levels need, each with a trace in its version. With `gives_up`, a
-        host gave up; nothing is judged if none may have. Returns whether something was."""
-        *parts, chosen = given
+        """Judges a connection in the runs that its levels need, the later ones without notes. With `gives_up`, a host
+        gave up; nothing is judged if none may have. Returns whether something was."""
         before = None
         for run in self.runs(found):
-            trace = Trace(*parts, chosen | {"version": run.version}, notes, self.clock, gives_up)
-            if gives_up and not trace.may_differ:
+            if not self.judge_run(number, given, found, run, Notes() if before else notes, gives_up):
                 return False
-            self.judge_trace(number, trace, found, run.words)
             if before:
                 found.put_first(before)
             if found.status == lab.YES:
                 found.status = lab.YES if run.counts else lab.NO
                 break
-            before, notes = copy(found), Notes()
+            before = copy(found)
         if self.options.report:
             self.describe(found)
+        return True
+
+    def judge_run(self, number, given, found, run, notes, gives_up):
+        """Judges a connection in a run, with a trace in its version. Returns whether a trace was judged."""
+        *parts, chosen = given
+        trace = Trace(*parts, chosen | {"version": run.version}, notes, self.clock, gives_up)
+        if gives_up and not trace.may_differ:
+            return False
+        words = self.words(found, run.words)
+        if self.options.report:
+            self.report(os.path.join(self.options.report, file_name(number, found)), trace, found, words)
+        else:
+            self.run(trace, found, words)
         return True
 
     def runs(self, found):
@@ -316,14 +326,6 @@ class Judge:
         if found.since:
             levels = [STRICTEST if level == FULL else level for level in levels]
         return runs(self.options.version, *levels)
-
-    def judge_trace(self, number, trace, found, levels):
-        """Judges a trace, with these options for the levels."""
-        words = self.words(found, levels)
-        if self.options.report:
-            self.report(os.path.join(self.options.report, file_name(number, found)), trace, found, words)
-        else:
-            self.run(trace, found, words)
 
     def refuse_lost(self, connection):
         """Refuses a connection of which a capture lost packets, unless the user accepts that."""

@@ -2,8 +2,9 @@
 
 What a host sends shows what it hadn't received by then: it acknowledges less, sends again what an arrival acknowledges,
 or has bytes beyond the window of an arrival. It also shows what it had received: it acknowledges that, reports it by a
-SACK block, or has bytes beyond the window that it knew. An arrival comes when it passed, unless what is sent later shows that it came later:
-then it comes as soon as it can. So what was lost behind the capture comes only after what shows that.
+SACK block, or has bytes beyond the window that it knew. An arrival comes when it passed, unless what is sent later
+shows that it came later: then it comes as soon as it can. So what was lost behind the capture comes only after what
+shows that.
 """
 import heapq
 from bisect import bisect_left

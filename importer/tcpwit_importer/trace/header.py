@@ -9,7 +9,7 @@ KERNEL = "plain"
 
 # The levels: how much of congestion control is judged, from all of it down to nothing.
 FULL, RECOVERY, NONE = LEVELS = ("full", "recovery", "none")
-STRICTEST = f"(default: {FULL}; in version {WITH_SACK}, {RECOVERY})"
+STRICTEST = f"(default: {FULL}; with --version {WITH_SACK}, {RECOVERY})"
 # The sender and its growth are Linux's. They have an effect only at `full`.
 VALUES = {"skew": 0, "msl": 60_000_000, "grain": 4000, "minrto": 200_000, "extra": 1, "initial": 6928,
           "slack": 1_000_000, "sender": "cubic", "growth": "any"}
