@@ -135,7 +135,7 @@ class Package(unittest.TestCase):
             lines = trace.text().decode().splitlines()
             rest = [f"congestion {level}", "slack 1000000", *["sender cubic", "growth any"] * (version == 6)]
             self.assertEqual((lines[0], lines[8:-2]), (f"trace {version}", rest))
-            self.assertTrue(tcpwit.judge(trace))
+            self.assertTrue(tcpwit.judge(trace, tcpwit.Level(level)))
 
     def test_the_page_shows_a_program_that_works(self):
         with open(f"{TOP}/docs/how-to/embedding.md", encoding="utf-8") as file:
