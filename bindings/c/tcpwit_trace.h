@@ -17,7 +17,7 @@
  *   moment   microseconds on one clock for both hosts, from any start. A moment that goes back is written as the previous one.
  *   thread   a number for each calling thread, and different ones, for each host, for segments received, segments sent and timers.
  *            The lines of one thread keep their order, and a thread has at most one open call. TCPWIT_LAST_THREAD is taken.
- *   host     0 or 1. Always 0 if only host 0 is recorded (version 3, or version 5 with hosts 1).
+ *   host     0 or 1. Always 0 if only host 0 is recorded (version 3, or a later one with hosts 1).
  *   socket   numbers from 1 that you choose: use each one only once in a trace, for a listener or an opened or accepted connection.
  *   segment  from the first byte of the TCP header to the last of the payload, without IP; in two parts, because stacks keep headers
  *            and payloads apart. The second part may be empty.
@@ -32,7 +32,7 @@
 struct tcpwit {
     void (*put)(void *to, const char *bytes, size_t count);
     void *to;
-    int version;      /* of the format: 1, 2, 3 or 5 */
+    int version;      /* of the format: 1, 2, 3, 5 or 6; 6 reads SACK blocks, and has no level TCPWIT_FULL */
     uint32_t line;    /* the last line that was written; 0 at first */
     uint64_t moment;  /* the last moment; 0 at first */
 };
@@ -47,7 +47,8 @@ enum tcpwit_state {
     TCPWIT_CLOSE_WAIT, TCPWIT_CLOSING, TCPWIT_LAST_ACK, TCPWIT_TIME_WAIT
 };
 
-enum tcpwit_timer { TCPWIT_RTO, TCPWIT_PERSIST, TCPWIT_2MSL, TCPWIT_GIVEUP };
+/* TCPWIT_PTO, the timer of a tail loss probe (RFC 8985, 7), is for version 6. */
+enum tcpwit_timer { TCPWIT_RTO, TCPWIT_PERSIST, TCPWIT_2MSL, TCPWIT_GIVEUP, TCPWIT_PTO };
 
 /* How much of congestion control is judged, from strict to lax. */
 enum tcpwit_level { TCPWIT_FULL, TCPWIT_RECOVERY, TCPWIT_NONE };
@@ -121,7 +122,7 @@ static inline void tcpwit_header_line(struct tcpwit *t, const char *word, uint64
 /* skew: 0 if one clock stamps everything. msl: the maximum segment lifetime, half of the length of TIME-WAIT. grain: the tick of the timers'
  * clock. minrto: the minimum retransmission timeout. These are in microseconds. extra: how many children a queue holds beyond its backlog.
  * initial: 5681 or 6928, the RFC of the initial window; not written in version 1. If in doubt, a smaller minrto and a larger grain and extra
- * are less strict. In version 5, tcpwit_judged follows; an expiry may also be too late, so a minrto that is too small needs more slack. */
+ * are less strict. From version 5 on, tcpwit_judged follows; an expiry may also be too late, so a minrto that is too small needs more slack. */
 static inline void tcpwit_header(struct tcpwit *t, uint64_t skew, uint64_t msl, uint64_t grain, uint64_t minrto, uint32_t extra, unsigned initial)
 {
     tcpwit_header_line(t, "trace ", (uint64_t)t->version);
@@ -134,9 +135,10 @@ static inline void tcpwit_header(struct tcpwit *t, uint64_t skew, uint64_t msl, 
     if (t->version == 3) tcpwit_header_line(t, "half ", 0);
 }
 
-/* The rest of the header of version 5: what is judged. hosts: 2, or 1 if only host 0 is recorded. slack: by how many microseconds a host may be
+/* The rest of the header from version 5 on: what is judged. hosts: 2, or 1 if only host 0 is recorded. slack: by how many microseconds a host may be
  * late with what it has to do, such as an acknowledgment or a retransmission; TCPWIT_ANY if that isn't judged. On a simulated
- * clock, 20,000 is enough. Add the tick of your stack's slowest timer, and on a real clock how long it may wait until it runs. */
+ * clock, 20,000 is enough. Add the tick of your stack's slowest timer, and on a real clock how long it may wait until it runs. In version 6,
+ * two lines follow that have no effect below TCPWIT_FULL. */
 static inline void tcpwit_judged(struct tcpwit *t, int hosts, enum tcpwit_level level, uint64_t slack)
 {
     static const char *const names[] = { "congestion full", "congestion recovery", "congestion none" };
@@ -145,10 +147,16 @@ static inline void tcpwit_judged(struct tcpwit *t, int hosts, enum tcpwit_level 
     (void)tcpwit_end_line(t);
     if (slack != TCPWIT_ANY) {
         tcpwit_header_line(t, "slack ", slack);
-        return;
+    } else {
+        tcpwit_text(t, "slack any");
+        (void)tcpwit_end_line(t);
     }
-    tcpwit_text(t, "slack any");
-    (void)tcpwit_end_line(t);
+    if (t->version == 6) {
+        tcpwit_text(t, "sender cubic");
+        (void)tcpwit_end_line(t);
+        tcpwit_text(t, "growth any");
+        (void)tcpwit_end_line(t);
+    }
 }
 
 /* ---- Calls begin: before the stack does anything for them ---- */
@@ -311,7 +319,7 @@ static inline uint32_t tcpwit_in(struct tcpwit *t, uint64_t moment, uint32_t thr
 static inline uint32_t tcpwit_expired(struct tcpwit *t, uint64_t moment, uint32_t thread, int host, unsigned local, unsigned remote,
                                       enum tcpwit_timer timer)
 {
-    static const char *const names[] = { " rto", " persist", " 2msl", " giveup" };
+    static const char *const names[] = { " rto", " persist", " 2msl", " giveup", " pto" };
     tcpwit_start(t, moment, thread, " T");
     tcpwit_field(t, (uint64_t)host);
     tcpwit_field(t, local);

@@ -306,7 +306,8 @@ class Refused(WithCaptures):
             file.seek(0)
             file.write(script)
         name, = self.files(hosts=(0,))
-        run(name, "--host", "client", "--lab", f"{self.folder}/lab", "--annotate", f"{self.folder}/made")
+        run(name, "--host", "client", "--lab", f"{self.folder}/lab", "--annotate", f"{self.folder}/made", "--version",
+            "5")
         self.assertEqual(Answers.comments_in(f"{self.folder}/made"), {1: [
             "tcpwit-judge: no (full, none): this packet sends 9 bytes beyond the congestion window of 7 (congestion; "
             "RFC 5681, 3.1) [rule congestion: RFC 5681, 3.1, 3.2 (step 1); RFC 6928, 2]"]})

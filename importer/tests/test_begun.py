@@ -77,7 +77,7 @@ class Output(WithCaptures):
             self.assertIn("(judged from packet 10 of", out)
             self.assertEqual(error, "")
             sent = Counter()
-            for line in self.text("given").splitlines()[10:]:
+            for line in self.text("given").splitlines()[12:]:
                 _, _, letter, *words = line.split()
                 if (letter, words[0]) in (("O", "1"), ("I", "0")):
                     sent[words[1]] += 1 if letter == "O" else -1
@@ -92,7 +92,7 @@ class Output(WithCaptures):
             self.assertIn(f"Lines {first} to {last} were made up: the connection began before the capture.\n", file)
         with open(found["files"][0], encoding="ascii") as file:
             lines = file.read().splitlines()
-        self.assertEqual(first, 11)
+        self.assertEqual(first, 13)
         self.assertIn(" O 0 ", lines[last])
         self.assertTrue(lines[last].endswith(b"hello".hex()))
 
@@ -109,7 +109,7 @@ class Output(WithCaptures):
 
     def test_the_handshake(self):
         self.judged()
-        lines = [line.split() for line in self.text("given").splitlines()[10:]]
+        lines = [line.split() for line in self.text("given").splitlines()[12:]]
         segments = [(line[2], bytes.fromhex(line[4])) for line in lines if line[2] in "OI"]
         self.assertEqual([(letter, each[13]) for letter, each in segments[:3]],
                          [("O", SYN), ("I", SYN | ACK), ("O", ACK)])

@@ -125,11 +125,17 @@ class Command(WithFiles):
         for word in ("full", "recovery", "none"):
             status, out, error = run(*self.captures, *self.logs, "--congestion", word)
             lines = out.splitlines()
+            # Below the level `full`, version 6 reads SACK blocks.
+            version, more = ("5", []) if word == "full" else ("6", ["sender cubic", "growth any"])
             self.assertEqual((status, lines[0], lines[6:9]),
-                             (0, "trace 5", ["initial 6928", "hosts 2", f"congestion {word}"]), error)
-            self.assertEqual(lines[9:], run(*self.captures, *self.logs)[1].splitlines()[9:])
+                             (0, f"trace {version}", ["initial 6928", "hosts 2", f"congestion {word}"]), error)
+            plain = run(*self.captures, *self.logs)[1].splitlines()
+            self.assertEqual(lines[9:], [plain[9], *more, *plain[10:]])
+            older = run(*self.captures, *self.logs, "--congestion", word, "--version", "5")[1].splitlines()
+            self.assertEqual(older, [*plain[:8], f"congestion {word}", *plain[9:]])
         _, out, _ = run(*self.captures[:3], *self.logs[:3], "--congestion", "none")
-        self.assertEqual(out.splitlines()[7:9], ["hosts 1", "congestion none"])
+        self.assertEqual(out.splitlines()[:9:8], ["trace 6", "congestion none"])
+        self.assertEqual(out.splitlines()[7], "hosts 1")
         self.assertEqual(run(*self.captures, *self.logs, "--version", "4")[1].splitlines()[8], "congestion full")
         self.refused([*self.captures, *self.logs, "--congestion", "none", "--version", "2"],
                      "format version 2 has no line congestion")

@@ -6,14 +6,14 @@ from types import SimpleNamespace
 
 from tcpwit_importer.capture.segments import ACK
 from tcpwit_importer.infer.arrivals import Arrivals
-from tcpwit_importer.infer.held import Greatest, Held
+from tcpwit_importer.infer.held import Came, Greatest, Held
 from tcpwit_importer.infer.passages import Passage
 
 
-def passage(place, start, length, acknowledged, edge):
+def passage(place, start, length, acknowledged, edge, blocks=()):
     """What passed the capture."""
     return Passage(SimpleNamespace(flags=ACK, size=length, moment=place, outgoing=None), place, start, start + length,
-                   acknowledged, edge)
+                   acknowledged, edge, blocks)
 
 
 class AgainstAWalk(unittest.TestCase):
@@ -55,10 +55,33 @@ class AgainstAWalk(unittest.TestCase):
                 edge = self.draw.randrange(30)
                 wider = [at for at in sorted(due) if others[at].edge > edge]
                 self.assertEqual(held.with_edge_above(edge), wider[0] if wider else None)
+                if self.draw.random() < 0.1:
+                    ranges = [(start, start + self.draw.randrange(1, 4)) for start in self.draw.sample(range(20), 2)]
+                    now = [at for at in sorted(due) if others[at].length and any(
+                        others[at].start < stop and start < others[at].stop for start, stop in ranges)]
+                    self.assertEqual(held.take_within(ranges), now)
+                    for at in now:
+                        del due[at]
                 if due and self.draw.random() < 0.3:
                     at = self.draw.choice(sorted(due))
                     held.take(at)
                     del due[at]
+
+
+    def test_what_came(self):
+        for _ in range(200):
+            came, known = Came(), set()
+            for _ in range(20):
+                start = self.draw.randrange(40)
+                stop = start + self.draw.randrange(1, 6)
+                came.add(start, stop)
+                known.update(range(start, stop))
+                low, high = sorted((self.draw.randrange(-5, 50), self.draw.randrange(-5, 50)))
+                found = came.missing(low, high)
+                self.assertEqual([at for start, stop in found for at in range(start, stop)],
+                                 [at for at in range(low, high) if at not in known])
+                # Between two ranges, something came.
+                self.assertTrue(all(one[1] < two[0] for one, two in zip(found, found[1:])))
 
 
 class Hostile(unittest.TestCase):
@@ -66,17 +89,19 @@ class Hostile(unittest.TestCase):
 
     def seconds(self, count, **others):
         """The time for so many arrivals that aren't acknowledged, and so many segments beyond the window."""
-        window, first = others.get("window", 0), others.get("first", 10)
+        window, first, blocks = others.get("window", 0), others.get("first", 10), others.get("blocks", lambda at: ())
         arrivals = [passage(0, 1, 0, 1, first)]
         arrivals += [passage(at, at, 1, 1, window(at) if window else 5) for at in range(1, count)]
-        sent = [SimpleNamespace(passage=passage(count + at, 10 + 10 * at, 10, 0, 0), before=count + at,
+        sent = [SimpleNamespace(passage=passage(count + at, 10 + 10 * at, 10, 0, 0, blocks(at)), before=count + at,
                                 packet=SimpleNamespace(moment=count + at)) for at in range(count)]
         begun = time.process_time()
         self.assertEqual(len(Arrivals(sent, arrivals).packets()), 2 * count)
         return time.process_time() - begun
 
     def test_times(self):
-        for others in ({}, {"first": 1 << 40}, {"first": 1 << 40, "window": lambda at: 10 * at}):
+        for others in ({}, {"first": 1 << 40}, {"first": 1 << 40, "window": lambda at: 10 * at},
+                       {"blocks": lambda at: ((0, 1 << 40),) * 4}, {"blocks": lambda at: ((3 * at, 3 * at + 1),)},
+                       {"blocks": lambda at: ((1 << 40 - at % 9, 1 << 41), (at, 1))}):
             self.assertLess(self.seconds(4000, **others), 5 + 20 * self.seconds(1000, **others), others)
             self.assertLess(self.seconds(16000, **others), 30, others)
 

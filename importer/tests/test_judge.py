@@ -16,8 +16,8 @@ from tcpwit_importer.commands.tcpwit_judge import main
 
 from .wire import SECOND, Talk, ethernet, ip_packet, pcap, segment
 
-# Answers `judge` by what the test chose, saves the trace, and makes a case and a picture if requested. It doesn't judge
-# many traces.
+# Answers `judge` by what the test chose, which may be another answer and status for a trace of version 6; saves the
+# trace, and makes a case and a picture if requested. It doesn't judge many traces.
 SCRIPT = """#!/bin/sh
 [ "$*" = judge ] && exit 2
 case "$*" in *--many) exit 3 ;; esac
@@ -26,6 +26,7 @@ if [ "$1" = draw ]; then echo '<svg/>'; exit 0; fi
 if [ "$1" = explain ]; then echo 'explained'; exit 1; fi
 cat > {folder}/given
 for word; do [ "$before" = --case ] && echo 'a case' > "$word"; before=$word; done
+case "$(head -n 1 {folder}/given)" in "trace 6") cat {folder}/below; exit {below} ;; esac
 cat {folder}/answer
 exit {status}
 """
@@ -49,10 +50,16 @@ def no(rule="ack-late", **input_line):
     """An answer whose last level is a no, by this rule and perhaps with the line of the trace that it refuses."""
     verdict = {"answer": "no", "witness_line": 7, "trace_line": 8, **input_line, "rule": rule}
     levels = [{"level": level, **verdict, "sentence": f"line 8: {level} is late."} for level in ("full", "none")]
-    return {"levels": levels, "said": [f"none      no 7 8 {rule}", "Under none: line 8: none is late."]}
+    return {"levels": levels, "said": [f"{level:<10}no 7 8 {rule}" for level in ("full", "none")]
+            + [f"Under {level}: line 8: {level} is late." for level in ("full", "none")]}
 
 
 NO = no()
+
+
+def below(answer):
+    """What an answer says of the levels below `full`."""
+    return {"levels": answer["levels"][1:], "said": [line for line in answer["said"] if "full" not in line]}
 
 
 def laxer(**input_line):
@@ -115,12 +122,15 @@ class WithCaptures(unittest.TestCase):
         self.talk.send(0, FIN | ACK)
         self.talk.send(1)
 
-    def lab(self, answer=YES, status=0):
-        """Writes a program with this answer, an object or a line. Returns the options that name it."""
-        with open(f"{self.folder}/answer", "w", encoding="ascii") as file:
-            file.write(answer if isinstance(answer, str) else json.dumps(answer))
+    def lab(self, answer=YES, status=0, below=None):
+        """Writes a program with this answer, an object or a line, and its status; perhaps with others for a trace of
+        version 6. Returns the options that name it."""
+        below = below or (answer, status)
+        for name, given in (("answer", answer), ("below", below[0])):
+            with open(f"{self.folder}/{name}", "w", encoding="ascii") as file:
+                file.write(given if isinstance(given, str) else json.dumps(given))
         with open(f"{self.folder}/lab", "w", encoding="ascii") as file:
-            file.write(SCRIPT.format(folder=self.folder, status=status))
+            file.write(SCRIPT.format(folder=self.folder, status=status, below=below[1]))
         os.chmod(f"{self.folder}/lab", 0o755)
         return ["--lab", f"{self.folder}/lab", "--jobs", "1"]
 
@@ -135,6 +145,11 @@ class WithCaptures(unittest.TestCase):
         """The text of a file."""
         with open(f"{self.folder}/{name}", encoding="ascii") as file:
             return file.read()
+
+    def forget(self):
+        """Removes what the program was asked for."""
+        with contextlib.suppress(FileNotFoundError):
+            os.remove(f"{self.folder}/words")
 
     def fails(self, *words):
         """The message of a run that fails with status 2, without its second line."""
@@ -165,11 +180,14 @@ class Lines(WithCaptures):
         first = "packet 1 of FOLDER/c0.pcap (0.000000 s)"
         for line, place in ((13, first), (12, f"before {first}"), (10, f"before {first}"), (None, f"before {first}"),
                             (999, "after packet 7 of FOLDER/c0.pcap (0.013000 s), the last one")):
-            _, out, _ = run(*self.files(), *self.lab(no(**{} if line is None else {"input_line": line}), 1))
-            self.assertEqual(out.splitlines()[0].replace(self.folder, "FOLDER").split("ack-late")[1],
-                             f"; {place}: none is late")
+            # Version 6 has two more lines in its header.
+            for words, number in ((["--version", "5"], line), ([], line and line + 2)):
+                answer = self.lab(no(**{} if number is None else {"input_line": number}), 1)
+                _, out, _ = run(*self.files(), *answer, *words)
+                self.assertEqual(out.splitlines()[0].replace(self.folder, "FOLDER").split("ack-late")[1],
+                                 f"; {place}: none is late")
         for words in ([], ["--report", f"{self.folder}/kept"]):
-            _, out, _ = run(*self.files(), *self.lab(no(input_line=13), 1), "--json", *words)
+            _, out, _ = run(*self.files(), *self.lab(no(input_line=13), 1), "--version", "5", "--json", *words)
             self.assertEqual((os.path.basename(json.loads(out)["capture"]), json.loads(out)["packet"]), ("c0.pcap", 1))
 
     def test_what_a_stricter_level_refused(self):
@@ -219,6 +237,49 @@ class Lines(WithCaptures):
         self.assertEqual(self.text("given").splitlines()[8:10], ["congestion recovery", "slack any"])
         run(*self.files(), *self.lab(), "--version", "5")
         self.assertEqual(self.text("given")[:8], "trace 5\n")
+
+    def test_levels_below_full_have_version_6(self):
+        yes, recovery = YES["levels"][0], laxer()["levels"][1]
+        answer = NO, 1, ({"levels": [recovery, yes | {"level": "none"}], "said": ["none      yes 57 88"]}, 0)
+        for words, runs, status in (([], ["full", "recovery"], 1), (["--level", "recovery"], ["recovery"], 0),
+                                    (["--level", "recovery", "--from", "full"], ["full", "recovery"], 0),
+                                    (["--level", "none", "--from", "full"], ["full", "none --from recovery"], 0),
+                                    (["--level", "none", "--from", "recovery"], ["none --from recovery"], 0),
+                                    (["--level", "none"], ["none"], 0)):
+            with self.subTest(words):
+                self.forget()
+                found, out, error = run(*self.files(), *self.lab(*answer), "--json", *words)
+                self.assertEqual((found, error), (status, ""))
+                self.assertEqual(self.text("words"), "".join(f"judge --json --least {run}\n" for run in runs))
+                self.assertEqual(self.text("given").splitlines()[:12:8], ["trace 6", "congestion recovery"])
+                facts, both = json.loads(out), len(runs) == 2
+                self.assertEqual((facts["status"], facts["level"], facts["lines"]), (status, "none", 57))
+                self.assertEqual([level["level"] for level in facts["levels"]], ["full"] * both + ["recovery", "none"])
+                refused = f"Under full: before packet 1 of {self.folder}/c0.pcap (0.000000 s): full is late."
+                self.assertEqual(facts["said"], [*NO["said"][:both], "none      yes 57 88", *[refused] * both])
+        # The line is about the laxest level that refused something, in its own version.
+        _, out, _ = run(*self.files(), *self.lab(*answer))
+        self.assertIn("   none      yes 57 88; recovery: packet 1 of ", out)
+        # A yes at `full` needs no other version, and a chosen version has all levels.
+        for words, given in (([], "trace 5\n"), (["--version", "5"], "trace 5\n"), (["--version", "6"], "trace 6\n")):
+            self.forget()
+            self.assertEqual(run(*self.files(), *self.lab(YES, 0, (YES, 0)), *words)[0], 0)
+            self.assertEqual((self.text("given")[:8], self.text("words").count("judge")), (given, 1))
+        self.forget()
+        run(*self.files(), *self.lab(NO, 1), "--version", "5", "--level", "none", "--from", "full")
+        self.assertEqual(self.text("words"), "judge --json --least none --from full\n")
+
+    def test_a_report_has_the_case_of_the_last_version(self):
+        report = f"{self.folder}/kept"
+        _, out, _ = run(*self.files(), *self.lab(NO, 1, (below(laxer(input_line=15)), 0)), "--report", report, "--json")
+        trace, _, _, text = (os.path.relpath(name, self.folder) for name in json.loads(out)["files"])
+        self.assertEqual(self.text(trace)[:8], "trace 6\n")
+        self.assertEqual(self.text(trace), self.text("given"))
+        self.assertEqual(self.text("words").splitlines()[2:], ["draw", "explain"])
+        said = f"Under recovery: packet 1 of {self.folder}/c0.pcap (0.000000 s) retransmits data (old-data).\n"
+        self.assertIn(said, self.text(text))
+        for level, packet in (("full", "before packet"), ("recovery", "packet")):
+            self.assertIn(f"{level}</th><td>no</td><td>{packet} 1 of ", self.text("kept/index.html"))
 
     def test_connections_in_their_order(self):
         second = Talk(zero=("10.9.0.1", 4001), at=99 * 10**9)
@@ -282,7 +343,7 @@ class Lines(WithCaptures):
         self.assertEqual(run(*self.files(hosts=(0,)), *self.lab(), "--host", "client")[0], 0)
 
     def test_json(self):
-        _, out, _ = run(*self.files(), *self.lab(NO, 1), "--json")
+        _, out, _ = run(*self.files(), *self.lab(NO, 1, (below(NO), 1)), "--json")
         first = {"capture": f"{self.folder}/c0.pcap", "packet": 1, "time": 0.0}
         said = f"before packet 1 of {self.folder}/c0.pcap (0.000000 s): {{}} is late."
         levels = [level | first | {"sentence": said.format(level["level"])} for level in NO["levels"]]
@@ -293,7 +354,7 @@ class Lines(WithCaptures):
             "hosts": 2, "level": "none", "answer": "no", "status": 1, "witness_line": 7, "trace_line": 8,
             "rule": "ack-late", "sentence": said.format("none"), "levels": levels,
             "size": {"client": "fits", "server": "fits"},
-            "said": [NO["said"][0], f"Under none: {said.format('none')}"]})
+            "said": [*NO["said"][:2], *(f"Under {level}: {said.format(level)}" for level in ("full", "none"))]})
         _, out, _ = run(*self.files(), *self.lab(), "--json")
         self.assertEqual((json.loads(out)["lines"], json.loads(out)["steps"]), (57, 88))
         ways = [{"host": 0, "way": "bytes", "does": "counts acknowledged bytes"}]
@@ -488,13 +549,13 @@ class Faults(WithCaptures):
             self.talk.send(0, payload=b"again")
             self.talk.next[0] -= 5
         late = no("expiry-late")
-        run(*self.files(hosts=(0,)), *self.lab(late, 1), "--host", "client")
+        run(*self.files(hosts=(0,)), *self.lab(late, 1), "--host", "client", "--level", "none")
         # With that, it isn't a yes either, so the first verdict is found again.
         self.assertEqual(self.text("words").count("judge --json"), 3)
         self.assertNotIn("giveup", self.text("given"))
         for answer in (NO, YES):
             os.remove(f"{self.folder}/words")
-            run(*self.files(hosts=(0,)), *self.lab(answer, 1), "--host", "client")
+            run(*self.files(hosts=(0,)), *self.lab(answer, 1), "--host", "client", "--level", "none")
             self.assertEqual(self.text("words").count("judge --json"), 1)
 
     def test_small_connections_share_a_process(self):
@@ -556,9 +617,10 @@ class Verdicts(WithCaptures):
     def test_version_6_reads_blocks(self):
         # A single acknowledgment reports four segments, so that the one before them is lost (RFC 6675, 4).
         for blocks, level in ((True, "recovery  yes "), (False, "none      yes ")):
-            words = ["--level", "none", "--from", "recovery"]
-            self.assertIn(f"   {level}", self.judged(reporting(blocks), *words, "--version", "6")[0])
-            self.assertIn("   none      yes ", self.judged(reporting(blocks), *words)[0])
+            for words in (["--version", "6", "--level", "none", "--from", "recovery"],
+                          ["--level", "none", "--from", "recovery"], ["--level", "none", "--from", "full"], []):
+                self.assertIn(f"   {level}", self.judged(reporting(blocks), *words)[0])
+            self.assertIn("   none      yes ", self.judged(reporting(blocks), "--version", "5")[0])
 
     def test_an_acknowledgment_that_is_missing(self):
         talk = Talk()

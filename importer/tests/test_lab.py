@@ -10,6 +10,7 @@ from unittest import mock
 
 from tcpwit_importer.capture.packets import Packet
 from tcpwit_importer.commands import lab
+from tcpwit_importer.commands.levels import joined
 from tcpwit_importer.commands.tcpwit_record import main as recording
 from tcpwit_importer.problem import plain
 from tcpwit_importer.recording import folder
@@ -21,7 +22,8 @@ from . import test_command
 from .test_command import run
 
 # Saves its arguments and the trace, and a case and a picture if requested; `judge` prints the answer that the test
-# chose. Before that, the commands check that it has `judge`, without other arguments and with an empty trace.
+# chose, which may be another one for a trace of version 6. Before that, the commands check that it has `judge`, without
+# other arguments and with an empty trace.
 SCRIPT = """#!/bin/sh
 [ "$*" = judge ] && {known}
 echo "$@" >> {folder}/words
@@ -29,18 +31,21 @@ if [ "$1" = draw ]; then echo '<svg/>'; exit 0; fi
 cat > {folder}/given
 while [ "$1" != --case ]; do shift; done
 echo a case > "$2"
-cat {folder}/answer
+case "$(head -n 1 {folder}/given)" in "trace 6") cat {folder}/below ;; *) cat {folder}/answer ;; esac
 {end}
 """
 RECORDER = "tcpwit_importer.commands.tcpwit_record"
-LINES = "full      no 57 88 congestion\nnone      yes 101 85\nThe run follows RFC 9293.\n"
+BELOW = "none      yes 101 85\nThe run follows RFC 9293.\n"
+LINES = "full      no 57 88 congestion\n" + BELOW
 
 
 class Judging(test_command.WithFiles):
-    def lab(self, answer, end="exit 0", known="exit 2"):
-        """Writes a program with this answer. Returns the options that name it."""
-        with open(f"{self.folder}/answer", "w", encoding="ascii") as file:
-            file.write(answer)
+    def lab(self, answer, end="exit 0", known="exit 2", below=None):
+        """Writes a program with this answer, and perhaps another one for a trace of version 6. Returns the options that
+        name it."""
+        for name, text in (("answer", answer), ("below", answer if below is None else below)):
+            with open(f"{self.folder}/{name}", "w", encoding="ascii") as file:
+                file.write(text)
         with open(f"{self.folder}/lab", "w", encoding="ascii") as file:
             file.write(SCRIPT.format(folder=self.folder, end=end, known=known))
         os.chmod(f"{self.folder}/lab", 0o755)
@@ -74,7 +79,7 @@ class Judging(test_command.WithFiles):
         self.importing(*self.lab(LINES), "--congestion", "none", "--from", "full")
         self.recorded(*self.lab(LINES), "--congestion", "none", "--from", "recovery")
         self.assertEqual(self.text("words"),
-                         "judge --least none --from full --case ./run.case\njudge --least none --from recovery --case "
+                         "judge --least full --case ./run.case\njudge --least none --from recovery --case "
                          "./run.case\ndraw\n")
         self.refused([*self.captures, *self.logs, "--out", f"{self.folder}/run.trace", "--from", "none",
                       *self.lab(LINES)], "--from none is laxer than --congestion full")
@@ -96,6 +101,62 @@ class Judging(test_command.WithFiles):
         self.refused([*self.captures, *self.logs, "--out", f"{self.folder}/run.trace", "--version", "6", "--from",
                       "none", *self.lab(LINES)], "--from none is laxer than --congestion recovery")
 
+    def test_levels_below_full_have_version_6(self):
+        for words, runs in (([], ["full", "recovery"]), (["--congestion", "full"], ["full", "recovery"]),
+                            (["--congestion", "recovery", "--from", "full"], ["full", "recovery"]),
+                            (["--congestion", "none", "--from", "full"], ["full", "none --from recovery"]),
+                            (["--congestion", "recovery"], ["recovery"]), (["--congestion", "none"], ["none"])):
+            for act in (self.importing, self.recorded):
+                with self.subTest(words, act=act):
+                    status, out, _ = act(*self.lab(LINES, "exit 1", below=BELOW), *words)
+                    self.assertEqual((status, out), (1, LINES if runs[0] == "full" else BELOW))
+                    said = [line for line in self.text("words").splitlines() if line != "draw"]
+                    self.assertEqual(said, [f"judge --least {run} --case ./run.case" for run in runs])
+                    # The trace has the version of the level that was asked for.
+                    trace = self.text("run.trace" if act == self.importing else "kept/run.trace").splitlines()
+                    self.assertEqual(trace[0], "trace 5" if words[1:2] in ([], ["full"]) else "trace 6")
+                    given = self.text("given").splitlines()
+                    self.assertEqual((given[0], given[9:12]),
+                                     ("trace 6", ["slack 1000000", "sender cubic", "growth any"]))
+                    self.assertEqual(given[12:], trace[10 if trace[0] == "trace 5" else 12:])
+                    os.remove(f"{self.folder}/words")
+
+        # For `full`, a trace of version 6 is read in version 5.
+        self.importing(*self.lab(LINES), "--congestion", "none", "--from", "full", "--slack", "any", "--skew", "7")
+        given, trace = self.text("given").splitlines(), self.text("run.trace").splitlines()
+        self.assertEqual(given, ["trace 5", "skew 7", *trace[2:8], "congestion full", "slack any", *trace[12:]])
+
+    def test_a_chosen_version_has_all_levels(self):
+        for version, level in (("5", "full"), ("6", "recovery"), ("4", "full")):
+            self.assertEqual(self.importing(*self.lab(LINES, "exit 1"), "--version", version)[:2], (1, LINES))
+            self.assertEqual(self.text("words"), f"judge --least {level} --case ./run.case\n")
+            self.assertEqual(self.text("given")[:8], f"trace {version}\n")
+            os.remove(f"{self.folder}/words")
+        self.importing(*self.lab(LINES, "exit 1"), "--version", "5", "--congestion", "none", "--from", "full")
+        self.assertEqual(self.text("words"), "judge --least none --from full --case ./run.case\n")
+        self.assertEqual(self.text("run.trace").splitlines()[:9:8], ["trace 5", "congestion none"])
+
+    def test_a_yes_below_full_counts_if_it_was_asked_for(self):
+        # The status is 0 only for a trace of version 6.
+        words = self.lab(LINES, f'case "$(head -n 1 {self.folder}/given)" in "trace 6") exit 0 ;; *) exit 1 ;; esac',
+                         below=BELOW)
+        for given, status in (([], 1), (["--congestion", "recovery", "--from", "full"], 0),
+                              (["--congestion", "none", "--from", "full"], 0), (["--congestion", "none"], 0)):
+            self.assertEqual(self.importing(*words, *given)[0], status, given)
+
+    def test_what_full_refused_comes_before_what_others_refused(self):
+        full = ["full      no 9 0 congestion", "recovery  no 8 0 sample", "none      yes 5 4", "A yes.",
+                "Under full{}: line 7 sends too much.", *["Under recovery: line 9: a sample (sample)."],
+                "Under full, without duties: yes 5 4", "The case has all 5 event lines of the trace, in order."]
+        below = ["recovery  no 8 0 sample", "none      yes 6 5", "Another yes.", "Under recovery: line 8: it's late.",
+                 "The case has all 6 event lines of the trace, in order."]
+        for others in ("", " and recovery", ", recovery and none"):
+            said = [line.format(others) for line in full]
+            refused = ["Under full: line 7 sends too much.", "Under full, without duties: yes 5 4"]
+            self.assertEqual(joined(said, below), [full[0], *below[:3], *refused, *below[3:]])
+            self.assertEqual(joined(said, below[:3]), [full[0], *below[:3], *refused])
+        self.assertEqual(joined([], below), below)
+
     def test_the_slack(self):
         self.importing(*self.lab(LINES), "--slack", "any")
         self.assertEqual(self.text("run.trace").splitlines()[9], "slack any")
@@ -113,7 +174,7 @@ class Judging(test_command.WithFiles):
 
     def test_a_no_is_printed_once_and_an_error_has_another_status(self):
         for act in (self.importing, self.recorded):
-            status, out, error = act(*self.lab(LINES, "exit 1"))
+            status, out, error = act(*self.lab(LINES, "exit 1", below=BELOW))
             self.assertEqual((status, out), (1, LINES))
             self.assertNotIn("congestion\n", error)
         words = [*self.captures, *self.logs, "--out", f"{self.folder}/run.trace", *self.lab(LINES, "exit 1")]
@@ -133,7 +194,7 @@ class Judging(test_command.WithFiles):
         client = sorted(test_command.CLIENT[:4] + second, key=lambda line: line[1])
         self.captures, self.logs = two[0].write(self.folder)[:3], self.write_logs(client, [])[:3]
         status, out, error = run(*self.captures, *self.logs, "--each", "connection", "--out", f"{self.folder}/out",
-                                 *self.lab(LINES, "exit 1"))
+                                 *self.lab(LINES, "exit 1", below=BELOW))
         self.assertEqual(status, 1, error)
         lines = ["  " + line for line in LINES.splitlines()]
         self.assertEqual(out.splitlines(),
@@ -194,7 +255,7 @@ class Judging(test_command.WithFiles):
         self.assertEqual(self.text("words"), "judge --least none --case ./run.case\ndraw\n")
         self.assertEqual(self.text("kept/run.trace").splitlines()[7:9], ["hosts 2", "congestion none"])
         self.assertEqual((self.text("kept/run.case"), self.text("kept/run.svg")), ("a case\n", "<svg/>\n"))
-        self.assertEqual(self.recorded(*self.lab(LINES, "exit 1"))[:2], (1, LINES))
+        self.assertEqual(self.recorded(*self.lab(LINES, "exit 1", below=BELOW))[:2], (1, LINES))
         self.assertEqual(self.text("kept/run.trace")[:8], "trace 5\n")
 
     def test_a_program_that_failed_is_named_with_the_verdict(self):
@@ -304,7 +365,7 @@ class Judging(test_command.WithFiles):
 
     def test_what_a_program_prints_is_escaped(self):
         answer = "full no 9 \x1b[2J\x7f\n"
-        status, out, error = self.importing(*self.lab(answer, "printf '\\377\\n'; exit 1"))
+        status, out, error = self.importing(*self.lab(answer, "printf '\\377\\n'; exit 1", below=""))
         self.assertEqual((status, out), (1, "full no 9 \\x1b[2J\\x7f\n\\xff\n"), error)
         words = [*self.captures, *self.logs, "--quiet", "--out", f"{self.folder}/run.trace"]
         self.refused([*words, *self.lab("bad\x1b[2J\n", "printf 'a\\233b\\n' >&2; exit 5")],

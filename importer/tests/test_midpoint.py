@@ -9,7 +9,7 @@ from types import SimpleNamespace
 
 from tcpwit_importer.capture.connections import Connection, connections_of
 from tcpwit_importer.capture.packets import packets_of
-from tcpwit_importer.capture.segments import ACK, FIN, RST, SYN, WRAP, acknowledgment, flags
+from tcpwit_importer.capture.segments import ACK, FIN, RST, SACK, SYN, WRAP, acknowledgment, flags
 from tcpwit_importer.infer import midpoint
 from tcpwit_importer.infer.departures import counts, timestamp
 from tcpwit_importer.infer.midpoint import split
@@ -107,6 +107,32 @@ class Split(unittest.TestCase):
         middle.add(1, 1, 3)
         one = [(0, 0, 0, 0), (1, 0, 0, 1), (0, 1, 0, 2), (0, 1, 2, 3), (1, 1, 0, 4)]
         self.assertEqual(middle.sides(), [one, one])
+
+    def test_what_a_block_reports_came_before(self):
+        for blocks in ([(3, 5)], [(5, 7), (3, 5)], [(0, 1), (5, 7)], [(5, 9)]):
+            middle = Middle()
+            for number in (1, 3, 5):
+                middle.add(0, number, 1, b"ab")
+            ends = b"".join((1000 + end).to_bytes(4, "big") for block in blocks for end in block)
+            middle.add(1, 1, 1, options=bytes((1, 1, SACK, len(ends) + 2)) + ends)
+            # The first one came only after that, and the others came by then, if a block reports them.
+            middle.add(1, 1, 7)
+            server = [each[:3] for each in middle.sides()[1][3:]]
+            reported = [(0, number, 2) for number in (3, 5) if any(l <= number < r for l, r in blocks)]
+            late = [(0, number, 2) for number in (1, 3, 5) if (0, number, 2) not in reported]
+            self.assertEqual(server, [*reported, (1, 1, 0), *late, (1, 1, 0)], blocks)
+
+    def test_what_came_twice_is_not_needed_again(self):
+        middle = Middle()
+        for number in (1, 3, 3):
+            middle.add(0, number, 1, b"ab")
+        block = bytes((1, 1, SACK, 10)) + (1003).to_bytes(4, "big") + (1005).to_bytes(4, "big")
+        middle.add(1, 1, 1, options=block)
+        middle.add(0, 3, 1, b"ab")
+        middle.add(1, 1, 1, options=block)
+        middle.add(1, 1, 5)
+        server = [each[:2] for each in middle.sides()[1][3:]]
+        self.assertEqual(server, [(0, 3), (0, 3), (1, 1), (1, 1), (0, 1), (0, 3), (1, 1)])
 
     def test_how_much_the_time_to_the_capture_differs(self):
         middle = Middle()
@@ -364,14 +390,18 @@ class Recorded(unittest.TestCase):
 
     @unittest.skipUnless(LAB, "TCPWIT_LAB names no program")
     def test_verdicts(self):
-        # The levels at which the captures of both hosts have a yes.
-        for name, level in (("abort", "recovery"), ("download", "none"), ("echo", "none"), ("slow", "full"),
-                            ("upload", "recovery")):
+        # The levels at which the captures of both hosts have a yes, and those in version 5, which doesn't read SACK
+        # blocks.
+        for name, *levels in (("abort", "recovery", "recovery"), ("download", "recovery", "none"),
+                              ("echo", "recovery", "none"), ("slow", "full", "full"),
+                              ("upload", "recovery", "recovery")):
             for words in (["--between", self.file(name, "middle")],
                           ["--slack", "any", self.file(name, "client"), self.file(name, "server")]):
-                with self.subTest(name, words=words[0]):
-                    status, out, error = test_judge.run("--quiet", "--level", level, "--from", level, *words)
-                    self.assertEqual((status, error), (0, ""), out)
+                for level, version in zip(levels, ([], ["--version", "5"])):
+                    with self.subTest(name, words=words[0], version=version):
+                        status, out, error = test_judge.run("--quiet", "--level", level, "--from", level, *version,
+                                                            *words)
+                        self.assertEqual((status, error), (0, ""), out)
 
     @unittest.skipUnless(LAB, "TCPWIT_LAB names no program")
     def test_faults_are_found(self):

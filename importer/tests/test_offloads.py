@@ -6,7 +6,7 @@ from tcpwit_importer.capture.connections import Connection
 from tcpwit_importer.capture.offloads import Flow, Outgoing, cut
 from tcpwit_importer.capture.segments import ACK, FIN, PSH
 from tcpwit_importer.problem import Notes, Problem
-from tcpwit_importer.trace.header import header
+from tcpwit_importer.trace.header import header, in_version
 
 from .wire import ONE, ZERO, Talk, packets, segment
 
@@ -145,7 +145,13 @@ class Headers(unittest.TestCase):
         self.assertEqual(header(2, 0, {}), ["trace 5", *whole, "hosts 2", "congestion full", "slack 1000000"])
         self.assertEqual(header(1, 5, {}),
                          ["trace 5", "skew 5", *whole[1:], "hosts 1", "congestion full", "slack 1000000"])
-        self.assertEqual(header(2, 0, {"congestion": "none", "slack": "any"})[8:], ["congestion none", "slack any"])
+        for level in ("recovery", "none"):
+            found = header(2, 0, {"congestion": level, "slack": "any"})
+            self.assertEqual((found[0], found[8:]),
+                             ("trace 6", [f"congestion {level}", "slack any", "sender cubic", "growth any"]))
+        self.assertEqual(header(2, 0, {"congestion": "full"}), header(2, 0, {}))
+        self.assertEqual(header(2, 0, {"congestion": "none"}, 5),
+                         ["trace 5", *whole, "hosts 2", "congestion none", "slack 1000000"])
         self.assertEqual(header(2, 0, {"slack": 0})[9:], ["slack 0"])
         self.assertEqual(header(2, 3, {"msl": 9}, 1),
                          ["trace 1", "skew 3", "msl 9", "grain 4000", "minrto 200000", "extra 1"])
@@ -160,6 +166,12 @@ class Headers(unittest.TestCase):
                               "sender cubic", "growth any"])
         self.assertEqual(header(2, 0, {"congestion": "none", "slack": "any"}, 6)[8:],
                          ["congestion none", "slack any", "sender cubic", "growth any"])
+
+    def test_another_version(self):
+        for hosts in (1, 2):
+            one = header(hosts, 3, {"slack": "any", "initial": "5681", "congestion": "full"})
+            two = header(hosts, 3, {"slack": "any", "initial": "5681", "congestion": "recovery"})
+            self.assertEqual((in_version(6, one), in_version(5, two)), (two, one))
 
     def test_refusals(self):
         for words in ((1, 0, {}, 2), (2, 0, {}, 3), (2, 0, {"congestion": "full"}, 2), (2, 0, {"initial": "5681"}, 1),

@@ -66,6 +66,24 @@ class Recordings(unittest.TestCase):
                     self.assertEqual(status, 0 if options or strictest == "full" else 1)
 
     @unittest.skipUnless(os.environ.get("TCPWIT_LAB"), "TCPWIT_LAB names no program")
+    def test_what_blocks_show_to_be_lost(self):
+        # It was sent again. Version 5 doesn't read SACK blocks.
+        files, trace = files_of(os.path.join(self.folder.name, "offload-60kB")), f"{self.folder.name}/blocks.trace"
+        for options, levels, versions in (([], ["full", "recovery"], "56"),
+                                          (["--congestion", "none", "--from", "full"], ["full", "recovery"], "66"),
+                                          (["--congestion", "recovery"], ["recovery"], "66"),
+                                          (["--version", "5"], ["full", "recovery", "none"], "55"),
+                                          (["--version", "5", "--congestion", "none"], ["none"], "55")):
+            with self.subTest(options):
+                _, out, error = run(*files, *options, "--out", trace)
+                rows = [line.split()[:2] for line in out.splitlines()[:len(levels)]]
+                self.assertEqual(rows, [[level, "no"] for level in levels[:-1]] + [[levels[-1], "yes"]], error)
+                self.assertEqual(out.count("Under full: line "), len(levels) > 1)
+                for name, version in zip((trace, trace.replace(".trace", ".case")), versions):
+                    with open(name, encoding="ascii") as file:
+                        self.assertEqual(file.readline(), f"trace {version}\n")
+
+    @unittest.skipUnless(os.environ.get("TCPWIT_LAB"), "TCPWIT_LAB names no program")
     def test_version_6(self):
         for name in ("abort", "half-curl", "redis-cli"):
             with self.subTest(name):

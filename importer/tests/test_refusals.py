@@ -16,6 +16,8 @@ from .wire import SECOND, Talk
 # In the traces of these tests, the calls begin just before the segments that they permit.
 LATE = "line 18: it is late; owed since {}, due by 1502000, with the slack by 2502000, and late at 2600000"
 LETTERS = ["B", "E", "O", "I", "O", "B", "E", "O", "I"]
+# The traces have this version at all levels.
+OF_VERSION = ["--version", "5"]
 
 
 def sentence(text, **members):
@@ -38,7 +40,7 @@ class Sentences(WithCaptures):
     def said(self, text, *words, **members):
         """What the line of the second connection says was refused."""
         answer = sentence(text, **members)
-        status, out, error = run(*self.files(hosts=(0,)), "--host", "client", *self.lab(answer, 1), *words)
+        status, out, error = run(*self.files(hosts=(0,)), "--host", "client", *OF_VERSION, *self.lab(answer, 1), *words)
         self.assertEqual(status, 1, error)
         return out.splitlines()[1].split(" no a-rule; ")[1]
 
@@ -104,7 +106,8 @@ class Sentences(WithCaptures):
 
     def test_lines_of_a_trace_are_only_in_a_report(self):
         text = "line 14: it is wrong"
-        words = [*self.files(hosts=(0,)), "--host", "client", *self.lab(sentence(text, input_line=14), 1)]
+        words = [*self.files(hosts=(0,)), "--host", "client", *OF_VERSION,
+                 *self.lab(sentence(text, input_line=14), 1)]
         self.assertNotIn("line 14", run(*words)[1] + run(*words, "--json")[1])
         out = run(*words, "--json", "--report", f"{self.folder}/kept")[1]
         found = json.loads(out.splitlines()[1])
@@ -133,7 +136,7 @@ class Times(WithCaptures):
         self.enterContext(mock.patch.object(calls, "WIDTH", 0))
         self.talk.frames[1] = [(moment + 300 * SECOND, frame) for moment, frame in self.talk.frames[1]]
         text = "line 13: it is late; owed since 1001000, due by 1501000, with the slack by 2501000, and late at 2600000"
-        _, out, _ = run(*self.files(), *self.lab(sentence(text, input_line=13), 1))
+        _, out, _ = run(*self.files(), *OF_VERSION, *self.lab(sentence(text, input_line=13), 1))
         self.assertEqual(out.splitlines()[0].replace(self.folder, "FOLDER").split(" no a-rule; ")[1],
                          "packet 1 of FOLDER/c0.pcap (0.000000 s): it is late; owed since packet 1 of FOLDER/c1.pcap "
                          "(0.000000 s), due by 0.500000 s, with the slack by 1.500000 s, and late at 1.599000 s")
@@ -173,10 +176,12 @@ class Verdicts(WithCaptures):
         self.talk.send(0, payload=b"first", lost=True)
         later = Talk(zero=("10.9.0.1", 4001), at=500 * SECOND)
         self.talk.frames[0] += later.frames[0]
-        self.assertEqual(self.refused("--host", "client"),
-                         "expiry-late; after packet 4 (0.006000 s), the last one: the retransmission timer should have "
-                         "expired (expiry-late); owed since packet 4 (0.006000 s), due by 0.206000 s, with the slack "
-                         "by 1.206000 s, and still missing at the end, 400.004000 s")
+        # Version 6 grants five times the tick of the timers more (docs/reference/model.md).
+        for words, due in ((OF_VERSION, "206000"), ([], "226000")):
+            self.assertEqual(self.refused("--host", "client", *words),
+                             "expiry-late; after packet 4 (0.006000 s), the last one: the retransmission timer should "
+                             f"have expired (expiry-late); owed since packet 4 (0.006000 s), due by 0.{due} s, with "
+                             f"the slack by 1.{due} s, and still missing at the end, 400.004000 s")
 
 
 @unittest.skipUnless(shutil.which("tshark"), "tshark isn't installed")
@@ -190,11 +195,11 @@ class Tshark(WithCaptures):
         number, time, sequence = rows.splitlines()[-1].split()
         # The SYN has number 0; then come 5 bytes and a FIN.
         self.assertEqual(sequence, "7")
-        run(name, "--host", "client", *self.lab())
+        run(name, "--host", "client", *OF_VERSION, *self.lab())
         line = max(at for at, text in enumerate(self.text("given").splitlines(), 1) if text.split()[2:3] == ["O"])
         answer = sentence(f"line {line} begins at position {sequence}, and everything below 9 is acknowledged already",
                           input_line=line)
-        _, out, _ = run(name, "--host", "client", *self.lab(answer, 1))
+        _, out, _ = run(name, "--host", "client", *OF_VERSION, *self.lab(answer, 1))
         self.assertIn(f"; packet {number} ({time[:-3]} s) begins at sequence number 7, ", out)
 
 

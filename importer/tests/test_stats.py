@@ -107,24 +107,27 @@ class Shown(WithCaptures):
 @unittest.skipUnless(os.environ.get("TCPWIT_LAB"), "TCPWIT_LAB names no program")
 class Causes(unittest.TestCase):
     # What permits a retransmission, by the witness, and the cause that fits.
-    CAUSES = {"the retransmission timer expired": "timeout", "three duplicate acknowledgments came": "fast"}
+    CAUSES = {"the retransmission timer expired": "timeout", "three duplicate acknowledgments came": "fast",
+              "three duplicate acknowledgments or SACK blocks showed a loss": "fast"}
 
     def test_a_witness_has_the_same_ones(self):
         folder = self.enterContext(tempfile.TemporaryDirectory())
         with tarfile.open(os.path.join(DATA, "middle.tar.xz")) as archive:
             archive.extractall(folder)
         for name, host in (("upload-client", "client"), ("abort-server", "server"), ("slow-client", "client")):
-            run(f"{folder}/{name}.pcap", "--host", host, "--level", "recovery", "--annotate", f"{folder}/made")
-            comments = test_annotated.Answers.comments_in(f"{folder}/made")
-            expected = {count: self.CAUSES[found[1]] for count, texts in comments.items()
-                        if (found := re.search(f"recovery: ({'|'.join(self.CAUSES)})", texts[0]))}
             with open(f"{folder}/{name}.pcap", "rb") as file:
                 connection, = connections_of({name: packets_of(name, file, Notes())})
             analysis = Analysis(connection.client)
             found = {packet.count: kind for packet in connection.packets() for kind in analysis.add(packet)
                      if kind in self.CAUSES.values()}
-            self.assertTrue(expected)
-            self.assertEqual(found, expected)
+            for version in ("5", "6"):
+                run(f"{folder}/{name}.pcap", "--host", host, "--level", "recovery", "--version", version, "--annotate",
+                    f"{folder}/made")
+                comments = test_annotated.Answers.comments_in(f"{folder}/made")
+                expected = {count: self.CAUSES[words[1]] for count, texts in comments.items()
+                            if (words := re.search(f"recovery: ({'|'.join(self.CAUSES)})", texts[0]))}
+                self.assertTrue(expected)
+                self.assertEqual(found, expected, version)
 
 
 class Report(WithPages):

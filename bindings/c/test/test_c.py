@@ -142,6 +142,9 @@ class Library(unittest.TestCase):
             with open(path, encoding="utf-8") as file:
                 self.assertEqual(output(program, *words), file.read())
         self.assertEqual(output(program, "any"), "hosts 2\ncongestion recovery\nslack any\n")
+        self.assertEqual(output(program, "six"),
+                         "trace 6\nskew 0\nmsl 120000000\ngrain 1000\nminrto 1000000\nextra 0\ninitial 5681\nhosts 1\n"
+                         "congestion recovery\nslack 20000\nsender cubic\ngrowth any\n10 9 T 0 4000 80 pto\n")
 
     def test_the_page_shows_a_program_that_works(self):
         with open(f"{TOP}/docs/how-to/embedding.md", encoding="utf-8") as file:

@@ -1,5 +1,6 @@
 /* Writes cases with tcpwit_trace.h: crates/test_cases/data/examples/handshake_and_five_bytes.case, a handshake and the five bytes of `hello`.
- * With the argument `unanswered`: unanswered.case, a SYN that is never retransmitted. With `any`: the end of a header without duties. */
+ * With the argument `unanswered`: unanswered.case, a SYN that is never retransmitted. With `any`: the end of a header without duties. With `six`:
+ * a trace of version 6, in which the timer of a tail loss probe expires. */
 #include "tcpwit_trace.h"
 #include <stdio.h>
 #include <string.h>
@@ -90,13 +91,22 @@ static void write_unanswered(struct tcpwit *t, struct tcpwit *w)
     tcpwit_step_finish(w, 3020011, last);
 }
 
+static void write_six(struct tcpwit *t)
+{
+    tcpwit_header(t, 0, 120000000, 1000, 1000000, 0, 5681);
+    tcpwit_judged(t, 1, TCPWIT_RECOVERY, 20000);
+    tcpwit_expired(t, 10, 9, 0, 4000, 80, TCPWIT_PTO);
+}
+
 int main(int count, char **words)
 {
     const char *what = count > 1 ? words[1] : "";
-    int version = *what ? 5 : 1;
+    int version = !strcmp(what, "six") ? 6 : *what ? 5 : 1;
     struct tcpwit trace = { put, stdout, version, 0, 0 }, witness = { put, stdout, version, 0, 0 };
     if (!strcmp(what, "any")) {
         tcpwit_judged(&trace, 2, TCPWIT_RECOVERY, TCPWIT_ANY);
+    } else if (version == 6) {
+        write_six(&trace);
     } else if (*what) {
         write_unanswered(&trace, &witness);
     } else {

@@ -15,7 +15,7 @@
 //   - thread: a number for each calling thread, and different ones, for each host, for segments received, segments sent and timers. The
 //     lines of one thread keep their order, and a thread has at most one open call. Goroutines have no number: count them yourself.
 //     LastThread is taken.
-//   - host: 0 or 1. Always 0 if only host 0 is recorded (version 3, or version 5 with hosts 1).
+//   - host: 0 or 1. Always 0 if only host 0 is recorded (version 3, or a later one with hosts 1).
 //   - socket: numbers from 1 that you choose: use each one only once in a trace, for a listener or an opened or accepted connection.
 //   - a segment: from the first byte of the TCP header to the last of the payload, without IP, in any number of parts.
 //
@@ -42,7 +42,7 @@ type Trace struct {
 	moment  uint64
 }
 
-// New returns a writer of format version 1, 2, 3 or 5.
+// New returns a writer of format version 1, 2, 3, 5 or 6. Version 6 reads SACK blocks, and has no level Full.
 func New(to io.Writer, version int) *Trace { return &Trace{to: to, version: version} }
 
 // Answers without a number or bytes.
@@ -65,6 +65,7 @@ const (
 	Persist = "persist"
 	TwoMSL  = "2msl"
 	GiveUp  = "giveup"
+	PTO     = "pto" // of a tail loss probe (RFC 8985, 7), in version 6
 )
 
 // How much of congestion control is judged, from strict to lax.
@@ -100,7 +101,7 @@ func (t *Trace) event(moment uint64, thread uint32, format string, what ...any) 
 // Header writes the header. Call it first. skew: 0 if one clock stamps everything. msl: the maximum segment lifetime, half of the length of
 // TIME-WAIT. grain: the tick of the timers' clock. minrto: the minimum retransmission timeout. These are in microseconds. extra: how many children a
 // queue holds beyond its backlog. initial: 5681 or 6928, the RFC of the initial window; not written in version 1. If in doubt, a smaller minrto and
-// a larger grain and extra are less strict. In version 5, Judged follows; an expiry may also be too late, so a minrto that is too small needs more
+// a larger grain and extra are less strict. From version 5 on, Judged follows; an expiry may also be too late, so a minrto that is too small needs more
 // slack.
 func (t *Trace) Header(skew, msl, grain, minrto uint64, extra uint32, initial int) {
 	t.mu.Lock()
@@ -119,9 +120,10 @@ func (t *Trace) Header(skew, msl, grain, minrto uint64, extra uint32, initial in
 	}
 }
 
-// Judged writes the rest of the header of version 5: what is judged. hosts: 2, or 1 if only host 0 is recorded. congestion: Full, Recovery or None.
+// Judged writes the rest of the header from version 5 on: what is judged. hosts: 2, or 1 if only host 0 is recorded. congestion: Full, Recovery or None.
 // slack: by how many microseconds a host may be late with what it has to do, such as an acknowledgment or a retransmission; Any if that isn't judged.
 // On a simulated clock, 20,000 is enough. Add the tick of your stack's slowest timer, and on a real clock how long it may wait until it runs.
+// In version 6, two lines follow that have no effect below Full.
 func (t *Trace) Judged(hosts int, congestion string, slack uint64) {
 	t.mu.Lock()
 	defer t.mu.Unlock()
@@ -131,6 +133,10 @@ func (t *Trace) Judged(hosts int, congestion string, slack uint64) {
 		t.write("slack any")
 	} else {
 		t.write("slack %d", slack)
+	}
+	if t.version == 6 {
+		t.write("sender cubic")
+		t.write("growth any")
 	}
 }
 
@@ -223,7 +229,7 @@ func (t *Trace) In(moment uint64, thread uint32, host int, parts ...[]byte) uint
 	return t.event(moment, thread, "I %d %s", host, joined(parts))
 }
 
-// Expired is a timer that expired: RTO, Persist, TwoMSL or GiveUp. Call it before the timer's effects.
+// Expired is a timer that expired: RTO, Persist, TwoMSL, GiveUp or PTO. Call it before the timer's effects.
 func (t *Trace) Expired(moment uint64, thread uint32, host int, local, remote uint16, timer string) uint32 {
 	return t.event(moment, thread, "T %d %d %d %s", host, local, remote, timer)
 }

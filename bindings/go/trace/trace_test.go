@@ -121,6 +121,19 @@ func TestUnanswered(t *testing.T) {
 	compare(t, &text, "stacks/tests/unanswered.case")
 }
 
+func TestVersion6(t *testing.T) {
+	for slack, line := range map[uint64]string{Any: "slack any", 20000: "slack 20000"} {
+		var text bytes.Buffer
+		w := New(&text, 6)
+		w.Judged(2, None, slack)
+		w.Expired(10, 9, 0, 4000, 80, PTO)
+		wanted := "hosts 2\ncongestion none\n" + line + "\nsender cubic\ngrowth any\n10 9 T 0 4000 80 pto\n"
+		if text.String() != wanted {
+			t.Fatalf("the trace differs:\n%s", text.String())
+		}
+	}
+}
+
 func TestWithoutDuties(t *testing.T) {
 	var text bytes.Buffer
 	New(&text, 5).Judged(2, Recovery, Any)

@@ -1,4 +1,4 @@
-"""Writes traces of version 5."""
+"""Writes traces of version 5 or 6."""
 from __future__ import annotations
 
 from types import TracebackType
@@ -56,8 +56,9 @@ class Call:
 
 
 class Trace:
-    """A trace in version 5. Moments are microseconds on one clock; a moment that goes back is written as the one
-    before.
+    """A trace: in version 5 at the level `full`, and at the others in version 6, which reads SACK blocks and has no
+    `full`; or in the version that you choose, of these two. Moments are microseconds on one clock; a moment that goes
+    back is written as the one before.
 
     Threads are numbers: one for each calling thread, and others for segments received, segments sent and timers of each
     host. The lines of one thread keep their order.
@@ -73,11 +74,16 @@ class Trace:
 
     def __init__(self, *, hosts: int = 2, congestion: str = "full", slack: int | None = 1_000_000, skew: int = 0,
                  msl: int = 120_000_000, grain: int = 1_000, minrto: int = 1_000_000, extra: int = 0,
-                 initial: int = 5681) -> None:
+                 initial: int = 5681, version: int | None = None) -> None:
         self.moment = 0
-        self._lines = ["trace 5", f"skew {skew}", f"msl {msl}", f"grain {grain}", f"minrto {minrto}", f"extra {extra}",
-                       f"initial {initial}", f"hosts {hosts}", f"congestion {congestion}",
+        if version is None:
+            version = 5 if congestion == "full" else 6
+        self._lines = [f"trace {version}", f"skew {skew}", f"msl {msl}", f"grain {grain}", f"minrto {minrto}",
+                       f"extra {extra}", f"initial {initial}", f"hosts {hosts}", f"congestion {congestion}",
                        f"slack {'any' if slack is None else slack}"]
+        if version == 6:
+            # These have no effect below the level `full`.
+            self._lines += ["sender cubic", "growth any"]
 
     def _event(self, moment: int, thread: int, words: str) -> None:
         """Writes an event line."""
@@ -137,7 +143,7 @@ class Trace:
         self._event(moment, thread, f"I {host} {segment.hex()}")
 
     def expired(self, moment: int, thread: int, host: int, local: int, remote: int, timer: str) -> None:
-        """A timer expired: `rto`, `persist`, `2msl` or `giveup`."""
+        """A timer expired: `rto`, `persist`, `2msl` or `giveup`; in version 6, also `pto` (RFC 8985, 7)."""
         self._event(moment, thread, f"T {host} {local} {remote} {timer}")
 
     def finish(self, moment: int) -> None:

@@ -127,6 +127,16 @@ class Package(unittest.TestCase):
         self.assertTrue(judgement, judgement.text)
         self.assertEqual(tcpwit.check(judgement.case).lines, 8)
 
+    def test_a_trace_below_full_has_version_6(self):
+        for level, chosen, version in (("full", None, 5), ("recovery", None, 6), ("none", None, 6), ("none", 5, 5),
+                                       ("recovery", 6, 6)):
+            trace = tcpwit.Trace(congestion=level, version=chosen)
+            trace.finish(50)
+            lines = trace.text().decode().splitlines()
+            rest = [f"congestion {level}", "slack 1000000", *["sender cubic", "growth any"] * (version == 6)]
+            self.assertEqual((lines[0], lines[8:-2]), (f"trace {version}", rest))
+            self.assertTrue(tcpwit.judge(trace, tcpwit.Level(level)))
+
     def test_the_page_shows_a_program_that_works(self):
         with open(f"{TOP}/docs/how-to/embedding.md", encoding="utf-8") as file:
             code = re.search(r"^    import tcpwit\n(?:(?:    .*)?\n)*", file.read(), re.MULTILINE)[0]

@@ -20,7 +20,7 @@
 //! - `moment`: microseconds on one clock for both hosts, from any start. A moment that goes back is written as the previous one.
 //! - `thread`: a number for each calling thread, and different ones, for each host, for segments received, segments sent and timers. The
 //!   lines of one thread keep their order, and a thread has at most one open call. `LAST_THREAD` is taken.
-//! - `host`: 0 or 1. Always 0 if only host 0 is recorded (version 3, or version 5 with hosts 1).
+//! - `host`: 0 or 1. Always 0 if only host 0 is recorded (version 3, or a later one with hosts 1).
 //! - `socket`: numbers from 1 that you choose: use each one only once in a trace, for a listener or an opened or accepted connection.
 //! - a segment: from the first byte of the TCP header to the last of the payload, without IP, in any number of parts.
 //!
@@ -99,6 +99,8 @@ pub enum Timer {
     Persist,
     TwoMsl,
     GiveUp,
+    /// Of a tail loss probe (RFC 8985, 7), in version 6.
+    Pto,
 }
 
 impl fmt::Display for Timer {
@@ -108,6 +110,7 @@ impl fmt::Display for Timer {
             Timer::Persist => "persist",
             Timer::TwoMsl => "2msl",
             Timer::GiveUp => "giveup",
+            Timer::Pto => "pto",
         })
     }
 }
@@ -155,7 +158,7 @@ pub struct Trace<W: Write> {
 }
 
 impl<W: Write> Trace<W> {
-    /// A writer of format version 1, 2, 3 or 5.
+    /// A writer of format version 1, 2, 3, 5 or 6. Version 6 reads SACK blocks, and has no level `Full`.
     pub fn new(to: W, version: u8) -> Trace<W> {
         Trace { to, version, line: 0, moment: 0 }
     }
@@ -177,7 +180,7 @@ impl<W: Write> Trace<W> {
         self.write(format_args!("{moment} {thread} {text}"))
     }
 
-    /// The header. Call it first. In version 5, `judged` follows.
+    /// The header. Call it first. From version 5 on, `judged` follows.
     pub fn header(&mut self, header: &Header) -> io::Result<()> {
         let version = self.version;
         self.write(format_args!("trace {version}"))?;
@@ -195,17 +198,22 @@ impl<W: Write> Trace<W> {
         Ok(())
     }
 
-    /// The rest of the header of version 5: what is judged. `hosts`: 2, or 1 if only host 0 is recorded. `slack`: by how many microseconds a host may
+    /// The rest of the header from version 5 on: what is judged. `hosts`: 2, or 1 if only host 0 is recorded. `slack`: by how many microseconds a host may
     /// be late with what it has to do, such as an acknowledgment or a retransmission; `None` if that isn't judged. On a simulated
-    /// clock, 20,000 is enough. Add the tick of your stack's slowest timer, and on a real clock how long it may wait until it runs.
+    /// clock, 20,000 is enough. Add the tick of your stack's slowest timer, and on a real clock how long it may wait until it runs. In version 6,
+    /// two lines follow that have no effect below `Full`.
     pub fn judged(&mut self, hosts: u8, congestion: Level, slack: Option<u64>) -> io::Result<()> {
         self.write(format_args!("hosts {hosts}"))?;
         self.write(format_args!("congestion {congestion}"))?;
         match slack {
-            Some(slack) => self.write(format_args!("slack {slack}")),
-            None => self.write(format_args!("slack any")),
+            Some(slack) => self.write(format_args!("slack {slack}"))?,
+            None => self.write(format_args!("slack any"))?,
+        };
+        if self.version == 6 {
+            self.write(format_args!("sender cubic"))?;
+            self.write(format_args!("growth any"))?;
         }
-        .map(|_| ())
+        Ok(())
     }
 
     // ---- Calls begin: before the stack does anything for them ----

@@ -1,8 +1,8 @@
-//! Writes the case of a handshake and five bytes, a SYN that is never retransmitted, and the end of a header without duties.
+//! Writes the case of a handshake and five bytes, a SYN that is never retransmitted, the end of a header without duties, and lines of version 6.
 
 use std::fs;
 use std::io::{self, Write};
-use tcpwit::trace::{Header, Made, Trace, LAST_THREAD};
+use tcpwit::trace::{Header, Made, Timer, Trace, LAST_THREAD};
 use tcpwit::Level;
 
 const SYN: &[u8] = &[0x0f, 0xa0, 0, 0x50, 0xff, 0xff, 0xff, 0xfe, 0, 0, 0, 0, 0x50, 0x02, 0xff, 0xff, 0, 0, 0, 0];
@@ -119,4 +119,15 @@ fn a_header_without_duties() {
     let mut trace = Trace::new(Vec::new(), 5);
     trace.judged(2, Level::Recovery, None).unwrap();
     assert_eq!(trace.into_inner(), b"hosts 2\ncongestion recovery\nslack any\n");
+}
+
+#[test]
+fn a_trace_of_version_6() {
+    for (slack, line) in [(None, "slack any"), (Some(20_000), "slack 20000")] {
+        let mut trace = Trace::new(Vec::new(), 6);
+        trace.judged(2, Level::None, slack).unwrap();
+        trace.expired(10, 9, 0, 4000, 80, Timer::Pto).unwrap();
+        let wanted = format!("hosts 2\ncongestion none\n{line}\nsender cubic\ngrowth any\n10 9 T 0 4000 80 pto\n");
+        assert_eq!(String::from_utf8(trace.into_inner()).unwrap(), wanted);
+    }
 }

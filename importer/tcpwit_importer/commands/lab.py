@@ -6,10 +6,13 @@ import shutil
 import signal
 import subprocess
 import sys
+import tempfile
 
 from ..files import remove, write_file
 from ..problem import Problem, decoded, not_run, plain
 from ..progress import Part
+from ..trace import header as headers
+from .levels import joined, runs
 
 TOP = os.path.realpath(f"{__file__}/../../../..")
 NAME, VARIABLE = "tcpwit_lab", "TCPWIT_LAB"
@@ -59,9 +62,7 @@ def case_of(trace):
 def judge_all(program, traces, least, options):
     """Judges trace files with --slack, from --from or the weakest level on whose yes counts, prints the lines of each
     and returns the highest status."""
-    words = ["--least", least]
-    if options.start:
-        words += ["--from", options.start]
+    words = []
     if options.slack is not None:
         words += ["--slack", str(options.slack)]
     if options.budget is not None:
@@ -70,7 +71,7 @@ def judge_all(program, traces, least, options):
         release_memory()
     worst = YES
     for name, trace in traces.items():
-        lines, status = judge(program, trace, words)
+        lines, status = judge(program, trace, runs(options.version, least, options.start), words)
         if len(traces) > 1:
             lines = [f"{name}:"] + ["  " + line for line in lines]
         print("\n".join(map(plain, lines)), flush=True)
@@ -85,17 +86,28 @@ def release_memory():
         trim(0)
 
 
-def judge(program, trace, words):
-    """The lines of `judge` with these options, and its status: 0 if a level that counts has a yes, 1 if not. The case
-    is saved."""
+def judge(program, trace, runs_of_it, words):
+    """The lines of `judge` in these runs with these options, and the status: 0 if a level that counts has a yes, 1 if
+    not. The case is saved."""
     if not os.path.isfile(trace):
         raise Problem(f"{trace} isn't a file that can be read again",
                       "name a file with --out, or skip judging with --no-check")
+    lines, status = [], NO
+    for run in runs_of_it:
+        found, status = judge_once(program, trace, run.version, [*run.words, *words])
+        lines = joined(lines, found)
+        if status == YES:
+            return lines, YES if run.counts else NO
+    return lines, status
+
+
+def judge_once(program, trace, version, words):
+    """The lines and the status of a run. The case is saved."""
     folder, name = os.path.split(case_of(trace))
     status = None
     try:
         with Part(f"judging {trace}"):
-            done = on_file([program, "judge", *words, "--case", "./" + name], trace, folder or ".")
+            done = on_trace([program, "judge", *words, "--case", "./" + name], trace, folder or ".", version)
         status = done.returncode
     finally:
         if status not in (YES, NO):
@@ -117,13 +129,33 @@ def draw(program, trace):
         write_file(trace.removesuffix(".trace") + ".svg", [drawn.stdout])
 
 
+def on_trace(words, name, folder, version):
+    """Runs a program on a trace's file, in its folder. If the trace has another version, the program reads a copy in
+    this one."""
+    with open(name, "rb") as file:
+        head = [file.readline().decode("ascii")]
+        head += [file.readline().decode("ascii") for _ in headers.LINES[int(head[0].split()[1])]]
+        if head[0] == f"trace {version}\n":
+            return on_file(words, name, folder)
+        with tempfile.TemporaryFile(dir=folder) as copy:
+            copy.writelines(f"{line}\n".encode() for line in headers.in_version(version, head))
+            shutil.copyfileobj(file, copy)
+            copy.seek(0)
+            return run(words, copy, folder)
+
+
 def on_file(words, name, folder=None):
     """Runs a program on a file, in a folder."""
     with open(name, "rb") as source:
-        try:
-            return subprocess.run(words, stdin=source, capture_output=True, check=False, cwd=folder)
-        except OSError as error:
-            raise Problem(f"{words[0]}: {error.strerror}", NAME_IT) from error
+        return run(words, source, folder)
+
+
+def run(words, source, folder):
+    """Runs a program that reads this file, in a folder."""
+    try:
+        return subprocess.run(words, stdin=source, capture_output=True, check=False, cwd=folder)
+    except OSError as error:
+        raise Problem(f"{words[0]}: {error.strerror}", NAME_IT) from error
 
 
 def ended(status):

@@ -32,8 +32,11 @@ tcpwit-import prints the trace. With --out, it writes the trace there and judges
 tcpwit_lab judge and saves the case next to the trace. Standard error lists what was left out and which settings were
 chosen.
 
-The status is 0 if the level of --congestion (default: full; in version 6, recovery) or a stricter one has a yes, 1 if
-none has, 2 for an error. Without --out, or with --no-check, it is 0 once the trace is written."""
+The level full is judged in version 5 of the texts, and the others in version 6, which reads SACK blocks. The trace has
+the version of the level of --congestion, and the case that of the last level tried. With --version, all have that one.
+
+The status is 0 if the level of --congestion (default: full; with --version 6, recovery) or a stricter one has a yes, 1
+if none has, 2 for an error. Without --out, or with --no-check, it is 0 once the trace is written."""
 
 
 def parser():

@@ -41,6 +41,9 @@ Each connection has a line: its level and the answer of tcpwit_lab judge, or why
 refused, the line ends with what it refused, and in which packet; of several levels, it's the laxest. A connection that
 began before the capture is judged from its first captured packet on, at recovery at most.
 
+The level full is judged in version 5 of the texts, and the others in version 6, which reads SACK blocks; with
+--version, all are judged in that version.
+
 The status is the highest of all connections: 0 if a level of at least --level has a yes, 1 if not, 2 for an error.
 It's also 2 if nothing could be judged."""
 HELP = {"msl": headers.HELP["msl"], "grain": headers.HELP["grain"], "minrto": headers.HELP["minrto"]}

@@ -35,8 +35,11 @@ judged with a yes. The programs' own output goes to standard error, unchanged. C
 are saved in the folder --out, instead of those of an earlier recording; files of more than 50 MB are compressed.
 Ctrl-C ends the programs, and what was recorded is judged.
 
-The status is 0 if the level of --congestion (default: full; in version 6, recovery) or a stricter one has a yes, 1 if
-none has, 2 for an error."""
+The level full is judged in version 5 of the texts, and the others in version 6, which reads SACK blocks; with
+--version, all are judged in that version.
+
+The status is 0 if the level of --congestion (default: full; with --version 6, recovery) or a stricter one has a yes, 1
+if none has, 2 for an error."""
 
 
 # Programs that the recorder runs, with their packages.

@@ -3,6 +3,7 @@ import json
 import os
 import re
 import tempfile
+from copy import copy
 from dataclasses import dataclass, field
 from itertools import filterfalse
 from typing import Any
@@ -27,6 +28,7 @@ from ..trace import header as headers
 from ..trace.header import FULL, LEVELS, VALUES
 from . import lab, spawned, standing
 from .ladder import ladder
+from .levels import joined, runs
 from .refusals import refusals_of
 from .retransmissions import Witness
 from .wireshark import Captured, named, placed
@@ -137,6 +139,13 @@ class Result:
             remove(name)
         self.levels, self.refusals, self.ways, self.said, self.files = [], [], [], [], []
         self.ladders, self.retransmissions = {}, {}
+
+    def put_first(self, before):
+        """Adds `full`, which the run before this one tried: its first level."""
+        self.levels, self.refusals = before.levels[:1] + self.levels, before.refusals[:1] + self.refusals
+        self.said = joined(before.said, self.said)
+        self.ladders |= {place: rungs for place, rungs in before.ladders.items()
+                         if place == before.refusals[0].place}
 
     @property
     def said_in_packets(self):
@@ -276,19 +285,47 @@ class Judge:
 
     def judge_silent(self, number, given, found):
         """Judges a connection whose host may have given up."""
-        self.judge_trace(number, Trace(*given, found.notes, self.clock), found)
-        if found.rule in LATE and (other := Trace(*given, Notes(), self.clock, True)).may_differ:
-            self.judge_trace(number, other, found)
-            if found.rule:
-                # Giving up doesn't help either: the first answer again.
-                self.judge_trace(number, Trace(*given, Notes(), self.clock), found)
+        self.judge_levels(number, given, found, found.notes)
+        if found.rule in LATE and self.judge_levels(number, given, found, Notes(), True) and found.rule:
+            # Giving up doesn't help either: the first answer again.
+            self.judge_levels(number, given, found, Notes())
 
-    def judge_trace(self, number, trace, found):
-        """Judges a trace."""
+    def judge_levels(self, number, given, found, notes, gives_up=False):
+        """Judges a connection in the runs that its levels need, the later ones without notes. With `gives_up`, a host
+        gave up; nothing is judged if none may have. Returns whether something was."""
+        before = None
+        for run in self.runs(found):
+            if not self.judge_run(number, given, found, run, Notes() if before else notes, gives_up):
+                return False
+            if before:
+                found.put_first(before)
+            if found.status == lab.YES:
+                found.status = lab.YES if run.counts else lab.NO
+                break
+            before = copy(found)
         if self.options.report:
-            self.report(os.path.join(self.options.report, file_name(number, found)), trace, found)
+            self.describe(found)
+        return True
+
+    def judge_run(self, number, given, found, run, notes, gives_up):
+        """Judges a connection in a run, with a trace in its version. Returns whether a trace was judged."""
+        *parts, chosen = given
+        trace = Trace(*parts, chosen | {"version": run.version}, notes, self.clock, gives_up)
+        if gives_up and not trace.may_differ:
+            return False
+        words = self.words(found, run.words)
+        if self.options.report:
+            self.report(os.path.join(self.options.report, file_name(number, found)), trace, found, words)
         else:
-            self.run(trace, found)
+            self.run(trace, found, words)
+        return True
+
+    def runs(self, found):
+        """The runs of `judge` for a connection."""
+        levels = [self.options.level, self.options.start]
+        if found.since:
+            levels = [STRICTEST if level == FULL else level for level in levels]
+        return runs(self.options.version, *levels)
 
     def refuse_lost(self, connection):
         """Refuses a connection of which a capture lost packets, unless the user accepts that."""
@@ -298,20 +335,14 @@ class Judge:
         except Problem as problem:
             raise Problem(f"{problem.cause} (--keep-gaps judges it as it is)", problem.remedy) from problem
 
-    def words(self, found):
-        """The options of `judge` for a connection."""
-        options, levels = self.options, [self.options.level, self.options.start]
-        if found.since:
-            levels = [STRICTEST if level == FULL else level for level in levels]
-        slack = headers.ANY if found.is_between else options.slack
-        words = ["judge", "--json", "--least", levels[0]]
-        words += ["--from", levels[1]] if levels[1] else []
-        words += ["--slack", str(slack)] if slack is not None else []
-        return words + (["--budget", str(options.budget)] if options.budget is not None else [])
+    def words(self, found, levels):
+        """The words of `judge` for a connection, with these options for the levels."""
+        slack = headers.ANY if found.is_between else self.options.slack
+        words = ["judge", "--json", *levels, *(["--slack", str(slack)] if slack is not None else [])]
+        return words + (["--budget", str(self.options.budget)] if self.options.budget is not None else [])
 
-    def run(self, trace, found):
+    def run(self, trace, found, words):
         """Judges a trace that isn't kept."""
-        words = self.words(found)
         if self.options.annotate:
             with tempfile.TemporaryDirectory(prefix="tcpwit-judge-") as folder:
                 case = os.path.join(folder, "case")
@@ -339,14 +370,19 @@ class Judge:
         except OSError as error:
             raise Problem(f"{self.program}: {error.strerror}", lab.NAME_IT) from error
 
-    def report(self, name, trace, found):
-        """Judges a trace that is kept in the file with this name, with its case, its picture and the explanation."""
+    def report(self, name, trace, found, words):
+        """Judges a trace that is kept in the file with this name, with its case."""
         write_file(name, map(str.encode, trace.lines()))
         case = lab.case_of(name)
-        words = [self.program, *self.words(found), "--case", "./" + os.path.basename(case)]
+        words = [self.program, *words, "--case", "./" + os.path.basename(case)]
         done = lab.on_file(words, name, os.path.dirname(name) or ".")
         found.files = [name]
         self.read(found, trace, case, done.stdout, done.stderr, done.returncode)
+
+    def describe(self, found):
+        """Adds the picture and the explanation of the case that is kept with a trace."""
+        name, = found.files
+        case = lab.case_of(name)
         lab.draw(self.program, name)
         explained = lab.on_file([self.program, "explain"], case)
         refused = [line for line in found.said_in_packets if line not in found.said]

@@ -1,9 +1,10 @@
 """When a host received what passed a capture between the hosts: at some moment after that, or never.
 
 What a host sends shows what it hadn't received by then: it acknowledges less, sends again what an arrival acknowledges,
-or has bytes beyond the window of an arrival. It also shows what it had received: it acknowledges that, or has bytes
-beyond the window that it knew. An arrival comes when it passed, unless what is sent later shows that it came later:
-then it comes as soon as it can. So what was lost behind the capture comes only after what shows that.
+or has bytes beyond the window of an arrival. It also shows what it had received: it acknowledges that, reports it by a
+SACK block, or has bytes beyond the window that it knew. An arrival comes when it passed, unless what is sent later
+shows that it came later: then it comes as soon as it can. So what was lost behind the capture comes only after what
+shows that.
 """
 import heapq
 from bisect import bisect_left
@@ -11,7 +12,7 @@ from collections import Counter
 from itertools import accumulate
 
 from ..capture.segments import ACK, WRAP
-from .held import Greatest, Held
+from .held import Came, Greatest, Held
 from .passages import moved
 
 # Above each position.
@@ -63,7 +64,7 @@ class Arrivals:
         self.edges = Greatest([each.edge or 0 for each in others])
         # What came: up to which position without a gap, and what beyond; what was acknowledged, and the window's end.
         self.reached, self.beyond, self.acknowledged, self.edge = 0, [], 0, 0
-        self.found = []
+        self.came, self.found = Came(), []
 
     def packets(self):
         """All packets of the host, in order."""
@@ -87,6 +88,8 @@ class Arrivals:
         """Before the segment at a place is sent, what is due comes, and what the segment needs."""
         self.come(self.held.take_due(place), place)
         passage = self.sent[place].passage
+        if passage.blocks:
+            self.come(self.held.take_within([gap for block in passage.blocks for gap in self.came.missing(*block)]))
         while not passage.is_reset and (at := self.needed(passage)) is not None:
             self.held.take(at)
             self.come([at])
@@ -121,6 +124,8 @@ class Arrivals:
         """An arrival that isn't a reset came."""
         if arrival.edge is not None and arrival.acknowledged >= self.acknowledged:
             self.acknowledged, self.edge = arrival.acknowledged, arrival.edge
+        if arrival.length:
+            self.came.add(arrival.start, arrival.stop)
         if arrival.length and arrival.stop > self.reached:
             heapq.heappush(self.beyond, (arrival.start, arrival.stop))
         while self.beyond and self.beyond[0][0] <= self.reached:

@@ -1,5 +1,9 @@
 """What passed a capture between the hosts and hasn't come yet. However much it is, what comes next is found quickly."""
 import heapq
+from bisect import bisect_left, bisect_right, insort
+
+# How many arrivals that begin before a position may have it.
+NEAR = 100
 
 
 class Greatest:
@@ -49,6 +53,8 @@ class Held:
         # By when they are due, and by their first position: those below or at a position asked for are in `begun`.
         self.due, self.later, self.begun = [], [], []
         self.edges = Greatest([0] * len(others))
+        # Where each begins that has a position, in order.
+        self.starts = []
 
     def hold(self, at, due):
         """An arrival waits until it is due."""
@@ -59,11 +65,15 @@ class Held:
             self.edges[at] = arrival.edge or 0
             if arrival.length:
                 heapq.heappush(self.later, (arrival.start, at))
+                insort(self.starts, (arrival.start, at))
 
     def take(self, at):
         """An arrival doesn't wait any longer."""
         self.held.remove(at)
         self.edges[at] = 0
+        arrival = self.others[at]
+        if arrival.length and not arrival.is_reset:
+            del self.starts[bisect_left(self.starts, (arrival.start, at))]
 
     def take_due(self, place):
         """Takes all that are due at a place, in order."""
@@ -83,6 +93,41 @@ class Held:
             heapq.heappop(self.begun)
         return self.begun[0] if self.begun else None
 
+    def take_within(self, ranges):
+        """Takes all that have one of the positions of these ranges, in order."""
+        found = set()
+        for start, stop in ranges:
+            first = max(0, bisect_left(self.starts, (start,)) - NEAR)
+            found.update(at for begins, at in self.starts[first:bisect_left(self.starts, (stop,))]
+                         if begins >= start or self.others[at].stop > start)
+        for at in found:
+            self.take(at)
+        return sorted(found)
+
     def with_edge_above(self, position):
         """The first arrival that permits bytes beyond a position; None if there is none."""
         return self.edges.first_above(position)
+
+
+class Came:
+    """The positions that came, as ranges in order."""
+
+    def __init__(self):
+        self.starts, self.stops = [], []
+
+    def add(self, start, stop):
+        """Positions come."""
+        first, last = bisect_left(self.stops, start), bisect_right(self.starts, stop)
+        if first < last:
+            start, stop = min(start, self.starts[first]), max(stop, self.stops[last - 1])
+        self.starts[first:last], self.stops[first:last] = [start], [stop]
+
+    def missing(self, start, stop):
+        """The ranges of these positions that didn't come, at most NEAR of them."""
+        found, at = [], bisect_right(self.stops, start)
+        while start < stop and len(found) < NEAR:
+            begins = self.starts[at] if at < len(self.starts) else stop
+            if start < begins:
+                found.append((start, min(begins, stop)))
+            start, at = self.stops[at] if at < len(self.stops) else stop, at + 1
+        return found

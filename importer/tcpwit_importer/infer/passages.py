@@ -3,19 +3,20 @@ has position 0, its first byte position 1."""
 from copy import copy
 from typing import Any, NamedTuple
 
-from ..capture.segments import ACK, FIN, RST, SHIFT, SYN, WRAP, options, values, window
+from ..capture.segments import ACK, FIN, RST, SACK, SHIFT, STAMPS, SYN, WRAP, listed, options, values, window
 
 
 class Passage(NamedTuple):
     """A segment that passed the capture, and when: `place` counts all of the connection's segments. `start` and `stop`
     are the positions that it has, `acknowledged` and `edge` those up to which it acknowledges and permits bytes; None
-    without ACK, and for a reset."""
+    without ACK, and for a reset. `blocks` has where the SACK blocks begin and end by which it reports others."""
     packet: Any
     place: int
     start: int
     stop: int
     acknowledged: Any
     edge: Any
+    blocks: tuple = ()
 
     @property
     def is_reset(self):
@@ -58,13 +59,25 @@ def passages(connection, packets):
     found = []
     for place, packet in enumerate(packets):
         start, stop = numbers[packet.source].sent(packet)
-        acknowledged = edge = None
+        acknowledged, edge, blocks = None, None, ()
         if packet.flags & (ACK | RST) == ACK:
-            acknowledged = numbers[connection.other(packet.source)].position(packet.acknowledgment)
+            others = numbers[connection.other(packet.source)]
+            acknowledged = others.position(packet.acknowledgment)
             shift = 0 if packet.flags & SYN else shifts.get(packet.source, 0)
             edge = acknowledged + (window(packet.segment) << shift)
-        found.append(Passage(packet, place, start, stop, acknowledged, edge))
+            blocks = tuple(blocks_of(packet.segment, others))
+        found.append(Passage(packet, place, start, stop, acknowledged, edge, blocks))
     return found
+
+
+def blocks_of(segment, numbers):
+    """The positions at which the SACK blocks of a segment begin and end (RFC 2018, 3)."""
+    given = options(segment)
+    if len(given) == len(STAMPS) + 8 and given.startswith(STAMPS):
+        return
+    for value in (value for kind, value in listed(given) if kind == SACK and len(value) % 8 == 0):
+        ends = [numbers.position(int.from_bytes(value[at:at + 4], "big")) for at in range(0, len(value), 4)]
+        yield from zip(ends[::2], ends[1::2])
 
 
 def shifts_of(packets):
