@@ -75,7 +75,11 @@ thread 2 host 0
                            ("window 65536", "65536 is above"), ("put A len 5 to here", "here isn't a sequence"),
                            ("put A to edge", "len is needed"), ("put A len 0 to edge", "len is needed"),
                            ("put A len 5 seq nxt to edge", "seq and times aren't understood"),
-                           ("put A len 5 to edge times 2", "seq and times aren't understood")):
+                           ("put A len 5 to edge times 2", "seq and times aren't understood"),
+                           ("put A sack irs+1", "irs+1 isn't one to four blocks"),
+                           ("put A sack 1..2,3..4,5..6,7..8,9..10", "isn't one to four blocks"),
+                           ("put A sack irs..here", "here isn't a sequence"),
+                           ("put A sack 1..2 raw 01010101", "raw has all options, so sack isn't understood")):
             self.fault(f"peer 80 to 4000\n  {step}\n", told)
         for step, told in (("send c many", "many isn't a number"), ("recv c all", "all isn't a number"),
                            ("open 4000 70000 as c", "70000 is above 65535"),
@@ -216,6 +220,12 @@ class TheScript(unittest.TestCase):
         made.pass_time()
         made.take(segments.SYN | segments.ACK, 4_000_000_001, 300, self.SHIFT)
         self.assertEqual(made.peer.edge, 4_000_000_301)
+
+    def test_it_sends_sack_blocks(self):
+        made = Script(["put S sack 5..iss+6", "put A sack nxt-1..rcv+4294967295,7..8"])
+        made.pass_time()
+        self.assertEqual([segment.options.hex() for segment in made.sent],
+                         ["020402180101050a00000005ee6b2806", "01010512ee6b2800ffffffff0000000700000008"])
 
     def test_it_sends_up_to_a_number(self):
         made = Script(["put S", "wait 1", "put A len 500 to edge", "put A len 500 to edge", "put A len 500 to edge-10",
