@@ -4,8 +4,8 @@ import re
 from .files import read
 
 # The first line of such a file.
-HEAD = ("# The verdict and, in brackets, the rule that refuses the profile's level; then what went wrong apart from it. "
-        "stacks/README.md explains the words.\n")
+HEAD = ("# The verdict and, in brackets, the rule that refuses the profile's level; then what went wrong apart from "
+        "it. stacks/README.md explains the words.\n")
 
 
 def brief(outcome):
