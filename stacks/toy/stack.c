@@ -13,8 +13,8 @@
 
 enum { FIN = 1, SYN = 2, RST = 4, PSH = 8, ACK = 16 };
 enum { CONNECTIONS = 64, SEND_ROOM = 1 << 16, OWN_WINDOW = 1 << 17, OWN_SHIFT = 10, HEADER = 20, LONGEST = 66000, USUAL_MSS = 536 };
-/* Blocks of a segment without bytes, the bytes that one takes in a segment with bytes, and the least MSS for that. */
-enum { MOST_BLOCKS = 4, BLOCK_BYTES = 12, ROOM_FOR_BLOCK = 40 };
+/* The most blocks of a segment without bytes. One with bytes has at most one block, if the peer's MSS isn't less than ROOM_FOR_BLOCK. */
+enum { MOST_BLOCKS = 4, ROOM_FOR_BLOCK = 40 };
 enum { SECOND = 1000000, GRAIN = 1000, OVERRIDE = SECOND / 2 };
 static const uint64_t NEVER = UINT64_MAX;
 static const uint64_t LONGEST_RTO = 60 * (uint64_t)SECOND, GIVE_UP = 180 * (uint64_t)SECOND, TIME_WAIT_LASTS = 60 * (uint64_t)SECOND;
@@ -270,7 +270,7 @@ static void send_syn(struct connection *c)
         memcpy(options + length, (unsigned char[]){ 1, 1, 4, 2 }, 4);
         length += 4;
     }
-    if (c->max != c->iss && defect != KARN_IGNORED) c->timing = 0;
+    if (c->max != c->iss && defect != KARN_IGNORED) c->timing = 0;   /* it was sent before */
     leave(c->local, c->remote, c->iss, answers ? c->rcv_nxt : 0, SYN | (answers ? ACK : 0), offer(c, 1), options, length, NULL, 0);
 }
 
@@ -710,6 +710,7 @@ static void come_reset(struct connection *c, const struct segment *s)
     else end(c, c->state < CLOSING ? STACK_RESET : 0);
 }
 
+/* A challenge (RFC 5961, 4). Without the option `sack`, SYN-RECEIVED sends its SYN ACK again instead, which only `full` permits. */
 static void come_syn(struct connection *c)
 {
     if (c->state == SYN_RECEIVED && !uses_sack) send_syn(c);
