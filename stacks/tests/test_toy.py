@@ -14,7 +14,7 @@ TOY, SACK = (os.path.join(TOP, name) for name in ("toy", "toy-sack"))
 
 
 def rows(name="defects", stack=TOY):
-    """The lines of a stack's list of defects: a defect, its scenario, and the outcome's line. In toy/missed, a reason
+    """The lines of a stack's list of defects: a defect, its scenario, and the outcome's line. In `missed`, a reason
     replaces the outcome."""
     with open(os.path.join(stack, name)) as file:
         for line in file:
@@ -56,12 +56,14 @@ class Toy(unittest.TestCase):
         self.assertEqual([text for text in found if text], [])
 
     def test_missed_defects_get_a_yes(self):
-        for defect, scenario, _ in rows("missed"):
-            self.assertEqual(self.run_one(defect, scenario, f"{scenario}: yes"), "")
+        missed = [(*row, stack, word) for stack, word in ((TOY, "yes"), (SACK, "yes at recovery"))
+                  for row in rows("missed", stack)]
+        for defect, scenario, _, stack, word in missed:
+            self.assertEqual(self.run_one(defect, scenario, f"{scenario}: {word}", stack), "")
             traces = []
             for each in ("", defect):
                 out = os.path.join(self.folder.name, f"missed-{each}")
-                self.run_it(scenario, "--only-trace", "--out", out, defect=each)
+                self.run_it(scenario, "--only-trace", "--out", out, defect=each, stack=stack)
                 with open(os.path.join(out, scenario + ".trace")) as file:
                     traces.append(file.read())
             self.assertNotEqual(*traces, defect)
@@ -92,7 +94,7 @@ class Toy(unittest.TestCase):
     def test_each_defect_of_the_stack_has_a_row(self):
         with open(os.path.join(TOY, "stack.c")) as file:
             names = re.search(r"defect_names\[DEFECTS\] = \{(.*?)\}", file.read(), re.DOTALL).group(1)
-        lists = [rows(), rows("missed"), rows(stack=SACK)]
+        lists = [rows(name, stack) for name in ("defects", "missed") for stack in (TOY, SACK)]
         self.assertEqual(sorted(re.findall(r'"([a-z-]+)"', names)),
                          sorted(["none", *(defect for each in lists for defect, _, _ in each)]))
 

@@ -30,7 +30,7 @@ enum defect {
     BACKLOG_LEAK, UNKNOWN_OPTION_STOPS, TIME_WAIT_NOT_RESTARTED, SYN_ACK_RESENT_ONCE, VARIANCE_UNUSED, ACCEPTED_BY_AGE,
     NO_FAST_RETRANSMIT, NO_WINDOW_UPDATE, ROUND_TRIP_UNUSED, SILLY_WINDOWS,
     BLOCK_TOO_WIDE, BLOCKS_UNPERMITTED, SACKED_RESENT, LOST_RESENT_TWICE, RECOVERY_AFTER_TWO, OLD_BLOCKS_COUNT, SCOREBOARD_KEPT,
-    PROBE_TOO_EARLY, PROBE_REPEATED, DEFECTS
+    PROBE_TOO_EARLY, PROBE_REPEATED, NO_BLOCKS, OLDEST_BLOCK_FIRST, DEFECTS
 };
 static const char *const defect_names[DEFECTS] = {
     "none", "window-ignored", "rto-not-doubled", "rto-too-early", "no-slow-start", "no-collapse", "fin-not-resent", "duplicates-delivered",
@@ -42,7 +42,7 @@ static const char *const defect_names[DEFECTS] = {
     "syn-ack-resent-once", "variance-unused", "accepted-by-age", "no-fast-retransmit", "no-window-update", "round-trip-unused",
     "silly-windows",
     "block-too-wide", "blocks-unpermitted", "sacked-resent", "lost-resent-twice", "recovery-after-two", "old-blocks-count",
-    "scoreboard-kept", "probe-too-early", "probe-repeated"
+    "scoreboard-kept", "probe-too-early", "probe-repeated", "no-blocks", "oldest-block-first"
 };
 static enum defect defect;
 
@@ -208,9 +208,9 @@ static unsigned put_blocks(const struct connection *c, unsigned char *options, u
 {
     unsigned count = 0, length;
     for (unsigned i = 0; i < c->blocks && count < most; i++) {
-        uint32_t left, right;
-        if (!before(c->rcv_nxt, c->told[i])) continue;
-        block_around(c, c->told[i], &left, &right);
+        uint32_t left, right, within = c->told[defect == OLDEST_BLOCK_FIRST ? c->blocks - 1 - i : i];
+        if (!before(c->rcv_nxt, within)) continue;
+        block_around(c, within, &left, &right);
         int known = 0;
         for (unsigned other = 0; other < count; other++) known |= number_at(options + 4 + 8 * other) == left;
         if (known) continue;
@@ -226,7 +226,7 @@ static unsigned put_blocks(const struct connection *c, unsigned char *options, u
 /* The blocks of a segment with this many bytes. */
 static unsigned report(const struct connection *c, unsigned char *options, uint32_t count)
 {
-    if (!c->sack || c->fin_taken) return 0;
+    if (!c->sack || c->fin_taken || defect == NO_BLOCKS) return 0;
     return put_blocks(c, options, !count ? MOST_BLOCKS : c->mss >= ROOM_FOR_BLOCK);
 }
 
