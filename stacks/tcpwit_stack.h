@@ -45,8 +45,8 @@ uint64_t stack_now(void);
 uint32_t stack_iss(uint32_t own);
 /* Sends a segment: from the first byte of the TCP header to the last of the payload. */
 void stack_out(const void *segment, size_t bytes);
-/* Reports that a timer expired: "rto", "persist", "2msl" or "giveup". Call it before the segments that the timer causes. If a stack
-   can't report expiries, leave this out; stacks/run then warns that its verdicts are less certain. */
+/* Reports that a timer expired: "rto", "persist", "2msl", "giveup" or, for a tail loss probe, "pto". Call it before the segments that the
+   timer causes. If a stack can't report expiries, leave this out; stacks/run then warns that its verdicts are less certain. */
 void stack_expired(unsigned local_port, unsigned remote_port, const char *timer);
 
 /* ---- Written for each stack ---- */

@@ -4,8 +4,8 @@ import re
 from .files import read
 
 # The first line of such a file.
-HEAD = ("# The verdict and, in brackets, the rule that refuses `full`; then what went wrong apart from it. "
-        "stacks/README.md explains the words.\n")
+HEAD = ("# The verdict and, in brackets, the rule that refuses the profile's level; then what went wrong apart from "
+        "it. stacks/README.md explains the words.\n")
 
 
 def brief(outcome):
@@ -44,9 +44,9 @@ def failure(outcome, least, known, remarks_fail=False):
         if brief(outcome) != before:
             return f"{brief(outcome)} (before: {before})"
     elif not outcome.is_good(least) and not outcome.is_unjudged():
-        full = f" (full: {outcome.refused})" if outcome.refused else ""
+        strict = f" ({outcome.first}: {outcome.refused})" if outcome.refused else ""
         cause = f": {'; '.join(outcome.wrong())}" if outcome.but() else ""
-        return outcome.shown() + full + cause
+        return outcome.shown() + strict + cause
     if remarks_fail and (outcome.remarks or outcome.unremarked):
         return f"{outcome.shown()}, remarks: {'; '.join(outcome.remarks) or outcome.unremarked}"
     return ""

@@ -13,10 +13,12 @@ from .scenarios import Fault
 from .texts import shown
 
 
-def report(words, name, outcomes, width=table.NAMES):
-    """Prints and writes the outcomes as they arrive, and returns the exit status. `width`: that of the longest name."""
-    seen, known = [], baseline.known_outcomes(words.against)
-    bad = functools.partial(baseline.failure, least=words.least, known=known, remarks_fail=words.remarks == "fail")
+def report(words, values, outcomes, width=table.NAMES):
+    """Prints and writes the outcomes as they arrive, and returns the exit status. `values`: those of the profile;
+    `width`: that of the longest name."""
+    seen, known, name = [], baseline.known_outcomes(words.against), values["name"]
+    bad = functools.partial(baseline.failure, least=words.least or values["level"], known=known,
+                            remarks_fail=words.remarks == "fail")
     for outcome in outcomes:
         if not seen:
             table.show_head(width)
@@ -62,7 +64,7 @@ def main():
             task = tasks.task_of(words, folder)
             with contextlib.closing(tasks.outcomes_of(wanted, task, words.jobs)) as outcomes:
                 width = table.width_of(scenario.name for scenario in wanted)
-                return report(words, task.values["name"], outcomes, width)
+                return report(words, task.values, outcomes, width)
     except OSError as fault:
         stop(f"{fault.filename}: {fault.strerror}" if fault.filename else str(fault))
     except (Fault, Broken, ValueError) as fault:

@@ -14,7 +14,7 @@ GIVEN = {"listen": r"ok \d+", "open": r"ok \d+", "accept": r"ok \d+", "send": r"
          "recv": r"data ([0-9a-f]{2})+", "status": r"state [A-Z0-9-]+"}
 WORDS = ("again", "eof", "closed", "notconn", "refused", "reset", "timeout", "inuse")
 NEXT = r"-|\d+"
-EXPIRED = r"\d+ \d+ (rto|persist|2msl|giveup)"
+EXPIRED = r"\d+ \d+ (rto|persist|2msl|giveup|pto)"
 # The most bytes of a line, lines of a command, and bytes to read at once.
 LONGEST_LINE, MOST_LINES, AT_ONCE = 1 << 20, 20_000, 1 << 16
 # How much of standard error is shown: bytes, lines, and characters of a line.

@@ -7,11 +7,13 @@ import tempfile
 from . import processes
 from .limits import Broken
 from .outcomes import FULL, LEVELS
-from .profiles import USUAL, VERSION, shown_expiries, trace_of
+from .profiles import USUAL, WITH_SACK, shown_expiries, trace_of
 from .texts import shown
 
 # The commands of tcpwit_lab. The segments came over a simulated wire, so no capture can have changed them.
 EXPLAIN, REMARK, LEVELS_OF = ["explain", "--simulated", "--json"], ["remark", "--json"], ["judge", "--json"]
+# The timer that no trace of `full` may have.
+PROBE = "pto"
 # How many seconds a program may take in a trial before the first scenario.
 LIMIT = 60
 
@@ -62,14 +64,14 @@ class Judge:
     # ---- before the first scenario ----
 
     def unfit(self):
-        """The program that is older than the suite, which needs format version 5, --expiries and --json; empty if none
+        """The program that is older than the suite, which needs format version 6, --expiries and --json; empty if none
         is."""
         case = self.case(trace_of(USUAL, False, [], LEVELS[-1]), shown_expiries({"expiries": "all"}, False))
         try:
             told = [self.object(words, case) for words in (EXPLAIN, REMARK, LEVELS_OF)]
         except Broken:
             told = []
-        if not case.startswith(f"trace {VERSION}\n") or not told:
+        if not case.startswith(f"trace {WITH_SACK}\n") or not told:
             return " ".join(self.lab)
         return "" if self.answer(case).startswith("yes") else " ".join(self.check)
 
@@ -80,43 +82,47 @@ class Judge:
     # ---- a scenario ----
 
     def judge(self, outcome, run, values):
-        """Finds witnesses and fills in the outcome. Returns the case of `full` and that of the strictest level with a
-        yes, keyed by level."""
-        trace, expiries = trace_of(values, run.peer, run.lines, FULL), shown_expiries(values, run.peer)
-        cases = {FULL: self.case(trace, expiries)}
-        outcome.answer = self.answer(cases[FULL])
+        """Finds witnesses and fills in the outcome. Returns the case of the profile's level and that of the strictest
+        level with a yes, keyed by level."""
+        first, expiries = values["level"], shown_expiries(values, run.peer)
+        if first == FULL and any(line.endswith(f" {PROBE}") for line in run.lines):
+            raise Broken(f"the stack reported the timer {PROBE}, so its profile needs `level {LEVELS[1]}`")
+        cases = {first: self.case(trace_of(values, run.peer, run.lines, first), expiries)}
+        outcome.first, outcome.answer = first, self.answer(cases[first])
         if outcome.answer.startswith("yes"):
-            outcome.level = FULL
+            outcome.level = first
         else:
-            self.explain(outcome, cases[FULL])
-        if outcome.answer.startswith("no"):
-            self.try_laxer_levels(outcome, trace, cases, expiries)
+            self.explain(outcome, cases[first])
+        if outcome.answer.startswith("no") and first != LEVELS[-1]:
+            self.try_laxer_levels(outcome, run, values, cases)
         if outcome.is_judged():
-            self.remark(outcome, cases[outcome.level or FULL])
+            self.remark(outcome, cases[outcome.level or first])
         return cases
 
     def explain(self, outcome, case):
-        """Says why `full` refuses a case. A limit that is reached doesn't change the verdict."""
+        """Says why the profile's level refuses a case. A limit that is reached doesn't change the verdict."""
         try:
             outcome.why = [shown(line) for line in self.object(EXPLAIN, case)["said"][1:] if line.strip()]
         except Broken as cause:
             outcome.notes.append(f"run: {cause}; the explanation wasn't finished")
 
-    def try_laxer_levels(self, outcome, trace, cases, expiries):
-        """Looks for the strictest level with a yes, after a no at `full`."""
+    def try_laxer_levels(self, outcome, run, values, cases):
+        """Looks for the strictest level with a yes, after a no at that of the profile."""
+        level, expiries = LEVELS[LEVELS.index(outcome.first) + 1], shown_expiries(values, run.peer)
+        trace = trace_of(values, run.peer, run.lines, level)
         try:
             with tempfile.NamedTemporaryFile() as file:
-                words = [*LEVELS_OF, "--least", LEVELS[1], *self.budget, *expiries, "--case", file.name]
+                words = [*LEVELS_OF, "--least", level, *self.budget, *expiries, "--case", file.name]
                 found = self.object(words, trace)
-                outcome.laxer = [f"{level['level']}: {shown(level['sentence'])}" for level in found["levels"]
-                                 if level.get("rule", outcome.rule()) != outcome.rule()]
+                outcome.laxer = [f"{each['level']}: {shown(each['sentence'])}" for each in found["levels"]
+                                 if each.get("rule", outcome.rule()) != outcome.rule()]
                 if found["answer"] != "yes":
                     return
                 with open(file.name, encoding="utf-8", errors="backslashreplace") as written:
                     case = written.read()
             answer = self.answer(case)
         except Broken as cause:
-            outcome.unexpected.append(f"run: {cause}; the levels after full weren't finished")
+            outcome.unexpected.append(f"run: {cause}; the levels after {outcome.first} weren't finished")
             return
         if not answer.startswith("yes"):
             raise Broken(f"at {found['level']}, tcpwit_lab judges yes, but tcpwit answers {answer}")

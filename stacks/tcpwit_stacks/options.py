@@ -3,7 +3,7 @@ import argparse
 import re
 
 from .files import say
-from .outcomes import FULL, LEVELS
+from .outcomes import LEVELS
 from .texts import shown
 
 DESCRIPTION = """\
@@ -16,10 +16,11 @@ beginning of their names. Without it, all scenarios run. A suffix, as in `data-b
 selects a variant.
 
 A verdict first judges all of congestion control (full). After a no, less is judged: only when outstanding data is
-retransmitted (recovery), or nothing (none). The verdict shows the strictest level with a yes: `yes` at full, else `yes
-at recovery` or `yes at none`; without one, it is `no`. It has `but` if something didn't happen as the scenario expects.
-A scenario is good if the level of --least (default: full) or a stricter one has a yes, without `but`. With --remarks
-fail, it also has no remarks.
+retransmitted (recovery), or nothing (none); SACK counts there. The verdict shows the strictest level with a yes: `yes`
+at full, else `yes at recovery` or `yes at none`; without one, it is `no`. It has `but` if something didn't happen as
+the scenario expects. A profile's line `level` names the level that is judged first, if it isn't full. A scenario is
+good if the level of --least (default: the profile's) or a stricter one has a yes, without `but`. With --remarks fail,
+it also has no remarks.
 
 The status is 0 if every scenario is good or, with --against, if every outcome equals that in the file. It is 1
 otherwise, or if nothing is judged (--only-trace), and 2 if something can't be run or all scenarios are skipped. In
@@ -79,8 +80,8 @@ def parser():
                             "as variants with names of their own")
     words.add_argument("--profile", metavar="FILE", type=some_name,
                        help="the stack's profile (default: that of its folder)")
-    words.add_argument("--least", choices=LEVELS, default=FULL,
-                       help="the least strict level whose yes is good (default: full)")
+    words.add_argument("--least", choices=LEVELS,
+                       help="the least strict level whose yes is good (default: the profile's level)")
     words.add_argument("--remarks", choices=("count", "fail"), default="count",
                        help="whether a scenario with remarks fails (default: they are only counted)")
     words.add_argument("--budget", metavar="N", type=some_budget,

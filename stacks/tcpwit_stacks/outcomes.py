@@ -15,9 +15,10 @@ class Outcome:
     scenario: object
     answer: str = ""            # yes .., no .., bad .., skipped .., recorded, or broken ..
     level: str = ""             # the strictest level with a yes, whose answer this is; empty if no level has one
-    refused: str = ""           # the answer at `full`, if `answer` is a yes at a laxer level
-    why: list = field(default_factory=list)        # after a no at `full`: what is compared, and usual causes
-    laxer: list = field(default_factory=list)      # what laxer levels refuse by another rule than `full`
+    refused: str = ""           # the answer at `first`, if `answer` is a yes at a laxer level
+    first: str = FULL           # the profile's level, which is judged first
+    why: list = field(default_factory=list)        # after a no at `first`: what is compared, and usual causes
+    laxer: list = field(default_factory=list)      # what laxer levels refuse by another rule than `first`
     unexpected: list = field(default_factory=list)
     missing: int = 0            # bytes that were accepted and never read
     waiting: list = field(default_factory=list)    # calls that never ended
@@ -68,6 +69,6 @@ class Outcome:
         return self.verdict() + space + numbers + self.but()
 
     def rule(self):
-        """The rule that refuses `full`; empty if it has a yes or nothing was judged."""
-        full = self.refused or self.answer
-        return full.split()[-1] if full.startswith("no ") else ""
+        """The rule that refuses the profile's level; empty if it has a yes or nothing was judged."""
+        strict = self.refused or self.answer
+        return strict.split()[-1] if strict.startswith("no ") else ""

@@ -65,6 +65,12 @@ class Peer:
         more = int(more or 0) * (-1 if sign == "-" else 1)
         return ((value or 0) + more) % 2**32
 
+    def blocks(self, text):
+        """The option with these SACK blocks."""
+        places = [place for pair in text.split(",") for place in pair.split("..")]
+        return bytes([1, 1, 5, 2 + 4 * len(places)]) + b"".join(
+            self.number(place, 0).to_bytes(4, "big") for place in places)
+
     def send(self, letters, options):
         flags = sum(LETTERS[letter] for letter in letters if letter != "-")
         count = int(options.get("len", 0))
@@ -80,6 +86,7 @@ class Peer:
             extra = bytes.fromhex(options["raw"])
         elif flags & SYN:
             extra = bytes([2, 4]) + int(options.get("mss", 536)).to_bytes(2, "big")
+        extra += self.blocks(options["sack"]) if "sack" in options else b""
         window = int(options.get("win", self.window))
         segment = Segment(self.port, self.other, seq, ack, flags, window, extra, payload)
         if flags & SYN:

@@ -1,15 +1,24 @@
 """The profile of a stack, and the header of its traces."""
 import re
 
-# The version of the traces; only this module chooses it.
-VERSION = 5
+from .outcomes import FULL, LEVELS
+
+# The versions of the traces: at `full`, and at the other levels, which version 6 judges with SACK. Only this module
+# chooses them.
+PLAIN, WITH_SACK = 5, 6
 HEADER = ("msl", "grain", "minrto", "extra", "initial")
+# The lines that only version 6 has.
+SENDERS = ("sender", "growth")
 # The values of a stack if its profile has none. The clock is simulated, so a slack of 20 ms is enough for a stack whose
 # timers are on time.
 USUAL = {"name": "a stack", "msl": "120000000", "grain": "1000", "minrto": "0", "extra": "65535", "initial": "5681",
-         "slack": "20000", "expiries": "some", "options": ""}
-# How the values are written.
-NUMBER, SLACK, EXPIRIES = "[0-9]+", "[0-9]+|any", "all|some"
+         "slack": "20000", "sender": "reno", "growth": "1", "level": FULL, "expiries": "some", "options": ""}
+# How the values are written, and what is said of others.
+NUMBER = ("[0-9]+", "isn't a number")
+FORMS = {**dict.fromkeys(HEADER, NUMBER), "slack": ("[0-9]+|any", "is neither a number nor any"),
+         "sender": ("reno|cubic", "is neither reno nor cubic"), "growth": ("1|2|any", "is none of 1, 2, any"),
+         "level": ("|".join(LEVELS), f"is none of {', '.join(LEVELS)}"),
+         "expiries": ("all|some", "is neither all nor some")}
 
 
 def profile(text, path="profile"):
@@ -22,12 +31,9 @@ def profile(text, path="profile"):
             if word not in values:
                 raise ValueError(f"{path}: {word} isn't a word of a profile")
             values[word] = value.strip()
-            if word in HEADER and not re.fullmatch(NUMBER, values[word]):
-                raise ValueError(f"{path}: {word} {values[word]!r} isn't a number")
-            if word == "slack" and not re.fullmatch(SLACK, values[word]):
-                raise ValueError(f"{path}: slack {values[word]!r} is neither a number nor any")
-            if word == "expiries" and not re.fullmatch(EXPIRIES, values[word]):
-                raise ValueError(f"{path}: expiries {values[word]!r} is neither all nor some")
+            form, fault = FORMS.get(word, (".*", ""))
+            if not re.fullmatch(form, values[word]):
+                raise ValueError(f"{path}: {word} {values[word]!r} {fault}")
     return values
 
 
@@ -40,9 +46,10 @@ def shown_expiries(values, half):
 def header_of(values, half, level):
     """The lines of a trace's header. `half`: only host 0 is recorded; `level`: how much of congestion control is
     judged."""
-    lines = [f"{name} {values[name]}" for name in HEADER]
-    return [f"trace {VERSION}", "skew 0", *lines, f"hosts {1 if half else 2}", f"congestion {level}",
-            f"slack {values['slack']}"]
+    lines, last = [[f"{name} {values[name]}" for name in names] for names in (HEADER, SENDERS)]
+    head = [f"trace {PLAIN if level == FULL else WITH_SACK}", "skew 0", *lines, f"hosts {1 if half else 2}",
+            f"congestion {level}", f"slack {values['slack']}"]
+    return head if level == FULL else head + last
 
 
 def trace_of(values, half, lines, level):

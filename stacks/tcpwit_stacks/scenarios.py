@@ -98,9 +98,19 @@ def tcp_options(text):
         raise ValueError(f"{text} is not 4 to 40 bytes of options in lowercase hex digits, a multiple of 4")
 
 
+def blocks(text):
+    """SACK blocks in a script: pairs of sequence numbers, with commas between them."""
+    pairs = [pair.split("..") for pair in text.split(",")]
+    if len(pairs) > 4 or any(len(pair) != 2 for pair in pairs):
+        raise ValueError(f"{text} isn't one to four blocks, such as irs+537..irs+1073,irs+1609..irs+2145")
+    for pair in pairs:
+        place(pair[0])
+        place(pair[1])
+
+
 # The values that words of a script's steps may have.
 PUT = {"seq": place, "ack": place, "len": half, "win": half, "mss": half, "fill": lambda text: number(text, 255),
-       "times": number, "each": seconds, "raw": tcp_options, "to": place}
+       "times": number, "each": seconds, "raw": tcp_options, "to": place, "sack": blocks}
 EXPECT = {"within": seconds, "seq": place, "ack": place, "len": half}
 
 
@@ -191,6 +201,8 @@ def act(line, words):
         made = Do(line, word, [args[0]], options(args[1:], PUT))
         if "to" in made.options and (not int(made.options.get("len", 0)) or {"seq", "times"} & made.options.keys()):
             raise ValueError("with to, len is needed, and seq and times aren't understood")
+        if {"raw", "sack"} <= made.options.keys():
+            raise ValueError("raw has all options, so sack isn't understood")
         return made
     if word in ("expect", "never"):
         if args[0] not in KINDS:

@@ -14,7 +14,7 @@ def details(outcome, verbose=False):
     if verbose:
         found += [f"shows: {outcome.scenario.show}", f"by: {outcome.scenario.by}",
                   f"{outcome.lines} lines in {outcome.seconds:.2f} s", *outcome.remarks]
-    found += [f"full: {outcome.refused}"] if outcome.refused else []
+    found += [f"{outcome.first}: {outcome.refused}"] if outcome.refused else []
     found += outcome.why + outcome.laxer + outcome.wrong() + outcome.notes
     found += [outcome.unremarked] if outcome.unremarked else []
     return found + (outcome.said if verbose or outcome.word() == "broken" else [])

@@ -7,7 +7,7 @@ from dataclasses import dataclass
 from . import files, processes, programs
 from .host import Cannot
 from .limits import Broken, Limits, Watch
-from .outcomes import FULL, Outcome
+from .outcomes import Outcome
 from .profiles import header_of, profile, trace_of
 from .simulation import Run
 from .storms import KEPT
@@ -78,7 +78,7 @@ def record(outcome, run, task):
         outcome.said = [line for each in run.hosts for line in each.tail()]
         if task.out:
             files.write(os.path.join(task.out, run.scenario.name + ".trace"),
-                        trace_of(task.values, run.peer, run.lines, FULL))
+                        trace_of(task.values, run.peer, run.lines, task.values["level"]))
     outcome.unexpected, outcome.waiting = run.unexpected + run.stuck(), run.waiting()
     if run.early:
         note_early_end(outcome, run, task.values)
@@ -89,17 +89,18 @@ def note_early_end(outcome, run, values):
     """Notes that a run was ended after too many events, and where a storm began."""
     text = f"run: ended after {run.count} events"
     if run.storm is not None:
-        line = len(header_of(values, run.peer, FULL)) + run.storm + 1
+        line = len(header_of(values, run.peer, values["level"])) + run.storm + 1
         text += f": a storm of acknowledgments from line {line} of the trace on, of which {KEPT} lines are kept"
         outcome.notes.append(f"line {line}: {run.lines[run.storm]}")
     outcome.unexpected.append(text)
 
 
 def judge_and_keep(outcome, run, values, judge, out):
-    """Judges one scenario. NAME.case is judged at full; NAME.LEVEL.case has a yes at a laxer level."""
+    """Judges one scenario. NAME.case is judged at the profile's level; NAME.LEVEL.case has a yes at a laxer one."""
     if not judge:
         outcome.answer = "recorded"
         return
     cases = judge.judge(outcome, run, values)
     for level, case in cases.items() if out else ():
-        files.write(os.path.join(out, outcome.scenario.name + ("" if level == FULL else f".{level}") + ".case"), case)
+        more = "" if level == outcome.first else f".{level}"
+        files.write(os.path.join(out, outcome.scenario.name + more + ".case"), case)

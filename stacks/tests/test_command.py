@@ -117,6 +117,9 @@ class TheCommand(unittest.TestCase):
         for text, cause in (("mls 5", "profile: mls isn't a word of a profile"),
                             ("msl fast", "profile: msl 'fast' isn't a number"),
                             ("expiries any", "profile: expiries 'any' is neither all nor some"),
+                            ("level strict", "profile: level 'strict' is none of full, recovery, none"),
+                            ("sender bbr", "profile: sender 'bbr' is neither reno nor cubic"),
+                            ("growth 3", "profile: growth '3' is none of 1, 2, any"),
                             ("msl", "profile: msl '' isn't a number"),
                             ("msl 5", "even an empty trace gets the answer 'bad trace 3'")):
             with open(f"{self.folder}/profile", "w") as file:
@@ -134,14 +137,14 @@ class TheCommand(unittest.TestCase):
         """An outcome with a yes at a level other than full."""
         return self.outcome("yes 7 6", level, name, "no 9 0 congestion")
 
-    def reported(self, *words, outcomes=None):
-        """Status and output of a report of these outcomes, or of three."""
+    def reported(self, *words, outcomes=None, level="full"):
+        """Status and output of a report of these outcomes, or of three. `level`: that of the profile."""
         outcomes = outcomes or [self.outcome("yes 5 3", "full", "one"), self.laxer("recovery", "two"),
                                 self.outcome("skipped", "", "three")]
         with mock.patch.object(sys, "argv", ["run", "lwip", *words]):
             words = options.arguments()
         with contextlib.redirect_stdout(io.StringIO()) as out:
-            status = cli.report(words, "a stack", outcomes)
+            status = cli.report(words, {"name": "a stack", "level": level}, outcomes)
         return status, out.getvalue()
 
     def test_the_columns(self):
@@ -174,6 +177,8 @@ class TheCommand(unittest.TestCase):
 
     def test_the_status_goes_by_the_least_level(self):
         self.assertEqual([self.reported("--least", word)[0] for word in LEVELS], [1, 0, 0])
+        self.assertEqual([self.reported(level=word)[0] for word in LEVELS], [1, 0, 0])
+        self.assertEqual(self.reported("--least", "full", level="recovery")[0], 1)
         for word, failures in (("full", 1), ("recovery", 0)):
             self.reported("--least", word, "--junit", f"{self.folder}/report.xml")
             with open(f"{self.folder}/report.xml") as file:
@@ -609,7 +614,7 @@ for line in sys.stdin:
         with mock.patch.object(sys, "argv", ["run", "lwip", "--junit", report]):
             words = options.arguments()
         with contextlib.redirect_stdout(io.StringIO()) as out:
-            self.assertEqual(cli.report(words, "a stack", outcomes()), 0)
+            self.assertEqual(cli.report(words, {"name": "a stack", "level": "full"}, outcomes()), 0)
 
     def test_files_that_are_no_text(self):
         path = f"{self.folder}/x.scenario"

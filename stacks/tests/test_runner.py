@@ -75,7 +75,11 @@ thread 2 host 0
                            ("window 65536", "65536 is above"), ("put A len 5 to here", "here isn't a sequence"),
                            ("put A to edge", "len is needed"), ("put A len 0 to edge", "len is needed"),
                            ("put A len 5 seq nxt to edge", "seq and times aren't understood"),
-                           ("put A len 5 to edge times 2", "seq and times aren't understood")):
+                           ("put A len 5 to edge times 2", "seq and times aren't understood"),
+                           ("put A sack irs+1", "irs+1 isn't one to four blocks"),
+                           ("put A sack 1..2,3..4,5..6,7..8,9..10", "isn't one to four blocks"),
+                           ("put A sack irs..here", "here isn't a sequence"),
+                           ("put A sack 1..2 raw 01010101", "raw has all options, so sack isn't understood")):
             self.fault(f"peer 80 to 4000\n  {step}\n", told)
         for step, told in (("send c many", "many isn't a number"), ("recv c all", "all isn't a number"),
                            ("open 4000 70000 as c", "70000 is above 65535"),
@@ -216,6 +220,12 @@ class TheScript(unittest.TestCase):
         made.pass_time()
         made.take(segments.SYN | segments.ACK, 4_000_000_001, 300, self.SHIFT)
         self.assertEqual(made.peer.edge, 4_000_000_301)
+
+    def test_it_sends_sack_blocks(self):
+        made = Script(["put S sack 5..iss+6", "put A sack nxt-1..rcv+4294967295,7..8"])
+        made.pass_time()
+        self.assertEqual([segment.options.hex() for segment in made.sent],
+                         ["020402180101050a00000005ee6b2806", "01010512ee6b2800ffffffff0000000700000008"])
 
     def test_it_sends_up_to_a_number(self):
         made = Script(["put S", "wait 1", "put A len 500 to edge", "put A len 500 to edge", "put A len 500 to edge-10",
@@ -359,11 +369,14 @@ class Profiles(unittest.TestCase):
         self.assertRaises(ValueError, profiles.profile, "mls 5")
 
     def test_the_header(self):
+        values = profiles.profile("sender cubic\ngrowth any\n")
         for half, hosts in ((False, "hosts 2"), (True, "hosts 1")):
-            for word in LEVELS:
-                self.assertEqual(profiles.header_of(profiles.USUAL, half, word),
-                                 ["trace 5", "skew 0", "msl 120000000", "grain 1000", "minrto 0", "extra 65535",
-                                  "initial 5681", hosts, f"congestion {word}", "slack 20000"])
+            for word, version, last in (("full", 5, []), ("recovery", 6, ["sender cubic", "growth any"]),
+                                        ("none", 6, ["sender cubic", "growth any"])):
+                self.assertEqual(profiles.header_of(values, half, word),
+                                 [f"trace {version}", "skew 0", "msl 120000000", "grain 1000", "minrto 0",
+                                  "extra 65535", "initial 5681", hosts, f"congestion {word}", "slack 20000", *last])
+        self.assertEqual(profiles.header_of(profiles.USUAL, False, "none")[-2:], ["sender reno", "growth 1"])
         self.assertEqual(profiles.trace_of(profiles.USUAL, True, ["1 1 B status 5"], "full").split("\n")[-3:],
                          ["slack 20000", "1 1 B status 5", ""])
 
@@ -432,10 +445,10 @@ class StandIn(Judge):
         self.yes, self.fault, self.slow = LEVELS[LEVELS.index(strictest):] if strictest else (), fault, slow
         self.rule = "old-data"
 
-    def outcome(self):
-        """The outcome and cases of an empty run."""
-        outcome = Outcome(SimpleNamespace(keeps=True, name="x"))
-        return outcome, self.judge(outcome, SimpleNamespace(peer=False, lines=[]), profiles.USUAL)
+    def outcome(self, profile="", lines=()):
+        """The outcome and cases of a run with these lines."""
+        outcome, run = Outcome(SimpleNamespace(keeps=True, name="x")), SimpleNamespace(peer=False, lines=list(lines))
+        return outcome, self.judge(outcome, run, profiles.profile(profile))
 
     def call(self, program, words, text):
         """Answers as `tcpwit` or `tcpwit_lab` with these arguments, and fails for any others."""
@@ -456,8 +469,8 @@ class StandIn(Judge):
         level = self.yes[0] if self.yes else LEVELS[-1]
         if path:
             with open(path, "w") as file:
-                file.write(text.replace("congestion full", f"congestion {level}"))
-        laxer = LEVELS[1:LEVELS.index(level) + 1]
+                file.write(re.sub(r"congestion \w+", f"congestion {level}", text))
+        laxer = LEVELS[LEVELS.index(re.search(r"congestion (\w+)", text)[1]):LEVELS.index(level) + 1]
         levels = [{"level": each} if each in self.yes else {"level": each, "rule": self.rule, "sentence": f"of {each}"}
                   for each in laxer]
         return json.dumps({"answer": "yes" if self.yes else "no", "level": level, "levels": levels})
@@ -472,11 +485,32 @@ class TheStrictestLevel(unittest.TestCase):
             self.assertEqual(list(cases), list(dict.fromkeys(each for each in ("full", level) if each)))
             self.assertEqual({each: re.search(r"congestion (\w+)", cases[each])[1] for each in cases},
                              {each: each for each in cases})
-            self.assertEqual(cases["full"][:8], "trace 5\n")
+            self.assertEqual({each: cases[each].split("\n")[0] for each in cases},
+                             {each: "trace 5" if each == "full" else "trace 6" for each in cases})
             self.assertEqual(outcome.remarks, [f"line 7: of {level or 'full'}", "at the end: x"])
             self.assertEqual(outcome.why, [] if level == "full" else ["what is compared"])
             self.assertEqual(outcome.laxer, {"none": ["recovery: of recovery"],
                                              "": ["recovery: of recovery", "none: of none"]}.get(level, []))
+
+    def test_the_profile_names_the_first_level(self):
+        for first, level, kept, refused in (("recovery", "recovery", ["recovery"], ""),
+                                            ("recovery", "none", ["recovery", "none"], "no 9 0 old-data"),
+                                            ("recovery", "", ["recovery"], ""), ("none", "none", ["none"], ""),
+                                            ("none", "", ["none"], "")):
+            outcome, cases = StandIn(level, "no 9 0 old-data").outcome(f"level {first}\n")
+            self.assertEqual((outcome.level, outcome.first, list(cases), outcome.refused),
+                             (level, first, kept, refused))
+            self.assertEqual({case.split("\n")[0] for case in cases.values()}, {"trace 6"})
+            self.assertEqual(outcome.rule(), "" if level == first else "old-data")
+            if refused:
+                self.assertIn("recovery: no 9 0 old-data", table.details(outcome))
+                self.assertEqual(baseline.failure(outcome, first, None), f"yes at none 5 3 ({first}: {refused})")
+
+    def test_a_probe_needs_a_laxer_level(self):
+        line = "1000 94 T 0 4000 80 pto"
+        with self.assertRaisesRegex(Broken, "reported the timer pto, so its profile needs `level recovery`"):
+            StandIn("full").outcome(lines=[line])
+        self.assertIn(line, StandIn("recovery").outcome("level recovery\n", [line])[1]["recovery"])
 
     def test_a_laxer_level_that_refuses_the_same(self):
         judge = StandIn("none")
@@ -531,7 +565,7 @@ class Answers(unittest.TestCase):
 
     def test_what_a_stack_may_say(self):
         syn = "0fa00050000000000000000050020000" + "00000000"
-        for word, rest in (("out", syn), ("expired", "80 4000 rto")):
+        for word, rest in (("out", syn), ("expired", "80 4000 rto"), ("expired", "80 4000 pto")):
             self.assertEqual(host.fault_of(word, rest), "")
         for word, rest, cause in (("out", syn[:-1], "hex digits each"), ("out", syn[:-2], "19 bytes, fewer"),
                                   ("out", "", "0 bytes, fewer"), ("out", syn.upper().replace("F", "G"), "hex"),

@@ -1,5 +1,5 @@
-"""Checks that the suite finds each defect of the toy stack with the scenario in toy/defects. Needs TCPWIT, TCPWIT_LAB
-and a C compiler."""
+"""Checks that the suite finds each defect of the toy stack with the scenario in toy/defects or toy-sack/defects. Needs
+TCPWIT, TCPWIT_LAB and a C compiler."""
 import concurrent.futures
 import os
 import re
@@ -9,13 +9,14 @@ import tempfile
 import unittest
 
 TOP = os.path.dirname(os.path.dirname(os.path.abspath(__file__)))
-TOY = os.path.join(TOP, "toy")
+# One program, with two profiles.
+TOY, SACK = (os.path.join(TOP, name) for name in ("toy", "toy-sack"))
 
 
-def rows(name="defects"):
-    """The lines of toy/defects: a defect, its scenario, and the outcome's line. In toy/missed, a reason replaces the
-    outcome."""
-    with open(os.path.join(TOY, name)) as file:
+def rows(name="defects", stack=TOY):
+    """The lines of a stack's list of defects: a defect, its scenario, and the outcome's line. In `missed`, a reason
+    replaces the outcome."""
+    with open(os.path.join(stack, name)) as file:
         for line in file:
             if not line.startswith("#"):
                 defect, outcome = line.rstrip("\n").split(maxsplit=1)
@@ -33,34 +34,36 @@ class Toy(unittest.TestCase):
         cls.addClassCleanup(cls.folder.cleanup)
         subprocess.run([os.path.join(TOY, "build"), cls.folder.name], check=True)
 
-    def run_it(self, scenario, *words, defect=""):
-        """Runs the toy stack through a scenario."""
+    def run_it(self, scenario, *words, defect="", stack=TOY):
+        """Runs the toy stack through a scenario, with a stack's profile."""
         command = [sys.executable, os.path.join(TOP, "run"), os.path.join(self.folder.name, "stack"), "--profile",
-                   os.path.join(TOY, "profile"), *SLOW, *words, "--",
+                   os.path.join(stack, "profile"), *SLOW, *words, "--",
                    os.path.join(TOP, "scenarios", scenario + ".scenario")]
         return subprocess.run(command, env={**os.environ, "TOY_DEFECT": defect}, capture_output=True, text=True)
 
-    def run_one(self, defect, scenario, outcome):
+    def run_one(self, defect, scenario, outcome, stack=TOY):
         """Runs a scenario with a defect. Returns the output if the outcome differs, else nothing."""
         against = os.path.join(self.folder.name, defect)
         with open(against, "w") as file:
             file.write(outcome + "\n")
-        done = self.run_it(scenario, "--against", against, defect=defect)
+        done = self.run_it(scenario, "--against", against, defect=defect, stack=stack)
         return "" if done.returncode == 0 else f"{defect}: status {done.returncode}\n{done.stdout}{done.stderr}"
 
     def test_each_defect_is_found(self):
-        wanted = list(rows())
+        wanted = [(*row, stack) for stack in (TOY, SACK) for row in rows(stack=stack)]
         with concurrent.futures.ThreadPoolExecutor(2) as workers:
             found = list(workers.map(lambda row: self.run_one(*row), wanted))
         self.assertEqual([text for text in found if text], [])
 
     def test_missed_defects_get_a_yes(self):
-        for defect, scenario, _ in rows("missed"):
-            self.assertEqual(self.run_one(defect, scenario, f"{scenario}: yes"), "")
+        missed = [(*row, stack, word) for stack, word in ((TOY, "yes"), (SACK, "yes at recovery"))
+                  for row in rows("missed", stack)]
+        for defect, scenario, _, stack, word in missed:
+            self.assertEqual(self.run_one(defect, scenario, f"{scenario}: {word}", stack), "")
             traces = []
             for each in ("", defect):
                 out = os.path.join(self.folder.name, f"missed-{each}")
-                self.run_it(scenario, "--only-trace", "--out", out, defect=each)
+                self.run_it(scenario, "--only-trace", "--out", out, defect=each, stack=stack)
                 with open(os.path.join(out, scenario + ".trace")) as file:
                     traces.append(file.read())
             self.assertNotEqual(*traces, defect)
@@ -85,17 +88,21 @@ class Toy(unittest.TestCase):
             self.assertEqual(" ack-late " in out, word == "no", out)
 
     def test_an_outcome_of_a_defect_is_no_plain_yes(self):
-        self.assertEqual([outcome for _, _, outcome in rows() if outcome.endswith(": yes")], [])
+        for stack, word in ((TOY, ": yes"), (SACK, ": yes at recovery")):
+            self.assertEqual([outcome for _, _, outcome in rows(stack=stack) if outcome.endswith(word)], [])
 
     def test_each_defect_of_the_stack_has_a_row(self):
         with open(os.path.join(TOY, "stack.c")) as file:
             names = re.search(r"defect_names\[DEFECTS\] = \{(.*?)\}", file.read(), re.DOTALL).group(1)
+        lists = [rows(name, stack) for name in ("defects", "missed") for stack in (TOY, SACK)]
         self.assertEqual(sorted(re.findall(r'"([a-z-]+)"', names)),
-                         sorted(["none", *(defect for name in ("defects", "missed") for defect, _, _ in rows(name))]))
+                         sorted(["none", *(defect for each in lists for defect, _, _ in each)]))
 
     def test_the_page_has_the_number_of_defects(self):
         with open(os.path.join(TOP, "README.md")) as file:
-            self.assertIn(f"one of {len(list(rows()))} defects", file.read())
+            page = file.read()
+        self.assertIn(f"one of {len(list(rows()))} defects", page)
+        self.assertIn(f"{len(list(rows(stack=SACK)))} defects of SACK", " ".join(page.split()))
 
     def test_an_unknown_defect_ends_the_stack(self):
         done = subprocess.run([os.path.join(self.folder.name, "stack")], input="start 0 1 536 0 \n",

@@ -1,5 +1,6 @@
 /* A small TCP that follows RFC 9293, 6298 and 5681, with window scaling (RFC 7323, 2). It acknowledges each segment at once. It has
- * room for 64 connections and never frees one.
+ * room for 64 connections and never frees one. With the option `sack`, it also uses SACK (RFC 2018 and 6675) and tail loss probes
+ * (RFC 8985, 7).
  *
  * The variable TOY_DEFECT turns on one of the defects below; the file `defects` lists each with the scenario that finds it, and the file
  * `missed` those that no scenario finds. Without the variable, the stack is correct.
@@ -12,6 +13,8 @@
 
 enum { FIN = 1, SYN = 2, RST = 4, PSH = 8, ACK = 16 };
 enum { CONNECTIONS = 64, SEND_ROOM = 1 << 16, OWN_WINDOW = 1 << 17, OWN_SHIFT = 10, HEADER = 20, LONGEST = 66000, USUAL_MSS = 536 };
+/* The most blocks of a segment without bytes. One with bytes has at most one block, if the peer's MSS isn't less than ROOM_FOR_BLOCK. */
+enum { MOST_BLOCKS = 4, ROOM_FOR_BLOCK = 40 };
 enum { SECOND = 1000000, GRAIN = 1000, OVERRIDE = SECOND / 2 };
 static const uint64_t NEVER = UINT64_MAX;
 static const uint64_t LONGEST_RTO = 60 * (uint64_t)SECOND, GIVE_UP = 180 * (uint64_t)SECOND, TIME_WAIT_LASTS = 60 * (uint64_t)SECOND;
@@ -25,7 +28,9 @@ enum defect {
     SCALE_ASSUMED, SYN_SCALED, WINDOW_DOUBLED, RTO_KEPT_AFTER_SYN, TIME_WAIT_REOPENED, SEND_AFTER_SHUT, PROBE_UNANSWERED, GAP_ANSWERED_ONCE,
     ACK_LATE, HALF_OPEN_ACCEPTED, PROBES_STEADY, ACK_DELAY_RESTARTED, FIN_WAITS, WINDOW_OF_OLDER_SEGMENT, WINDOW_OF_OLDER_ACK,
     BACKLOG_LEAK, UNKNOWN_OPTION_STOPS, TIME_WAIT_NOT_RESTARTED, SYN_ACK_RESENT_ONCE, VARIANCE_UNUSED, ACCEPTED_BY_AGE,
-    NO_FAST_RETRANSMIT, NO_WINDOW_UPDATE, ROUND_TRIP_UNUSED, SILLY_WINDOWS, DEFECTS
+    NO_FAST_RETRANSMIT, NO_WINDOW_UPDATE, ROUND_TRIP_UNUSED, SILLY_WINDOWS,
+    BLOCK_TOO_WIDE, BLOCKS_UNPERMITTED, SACKED_RESENT, LOST_RESENT_TWICE, RECOVERY_AFTER_TWO, OLD_BLOCKS_COUNT, SCOREBOARD_KEPT,
+    PROBE_TOO_EARLY, PROBE_REPEATED, NO_BLOCKS, OLDEST_BLOCK_FIRST, DEFECTS
 };
 static const char *const defect_names[DEFECTS] = {
     "none", "window-ignored", "rto-not-doubled", "rto-too-early", "no-slow-start", "no-collapse", "fin-not-resent", "duplicates-delivered",
@@ -35,7 +40,9 @@ static const char *const defect_names[DEFECTS] = {
     "probe-unanswered", "gap-answered-once", "ack-late", "half-open-accepted", "probes-steady", "ack-delay-restarted", "fin-waits",
     "window-of-older-segment", "window-of-older-ack", "backlog-leak", "unknown-option-stops", "time-wait-not-restarted",
     "syn-ack-resent-once", "variance-unused", "accepted-by-age", "no-fast-retransmit", "no-window-update", "round-trip-unused",
-    "silly-windows"
+    "silly-windows",
+    "block-too-wide", "blocks-unpermitted", "sacked-resent", "lost-resent-twice", "recovery-after-two", "old-blocks-count",
+    "scoreboard-kept", "probe-too-early", "probe-repeated", "no-blocks", "oldest-block-first"
 };
 static enum defect defect;
 
@@ -53,13 +60,20 @@ struct connection {
     unsigned char *out;
     uint32_t out_seq, queued;
     int shut, duplicates, fast, send_shift, overridden;
+    /* SACK, if both SYNs permit it. `marks`: of each position from `out_seq` on, and of the FIN; all unsacked ones before `lost` are lost. */
+    int sack;
+    unsigned char *marks;
+    uint32_t lost, probe_end;              /* `probe_end`: until this is acknowledged, there is no other probe */
+    enum { NO_PROBE, NEW_PROBE, OLD_PROBE } probe;
     /* Receiving: `in` begins with the `unread` bytes; `have` marks the received bytes after them. */
     uint32_t irs, rcv_nxt, edge, room;     /* `edge`: the end of the window that was offered */
     unsigned char *in, *have;
     uint32_t unread, fin_at, farthest;     /* `farthest`: the end of the bytes received, whatever is missing before it */
     int fin_seen, fin_taken, rcv_shift, ack_due;
+    uint32_t told[MOST_BLOCKS];            /* a number in each block of bytes after a gap, the latest first */
+    unsigned blocks;
     /* Timers: the moments when they expire. */
-    uint64_t rto_at, persist_at, override_at, end_at, ack_at;
+    uint64_t rto_at, persist_at, override_at, end_at, ack_at, probe_at;
     uint64_t rto, srtt, rttvar, persist, timed_at, stuck_since;
     uint32_t timed;                        /* the number whose acknowledgment is a sample */
     int timing, expiries, sampled;
@@ -69,6 +83,8 @@ static struct connection connections[CONNECTIONS];
 static int opened;
 static unsigned established;
 static struct stack_config config;
+static int uses_sack;
+enum mark { SACKED = 1, AGAIN = 2 };       /* AGAIN: sent again since the last timeout */
 
 static int before(uint32_t a, uint32_t b) { return (int32_t)(a - b) < 0; }
 static uint32_t least(uint32_t a, uint32_t b) { return a < b ? a : b; }
@@ -83,8 +99,20 @@ struct segment {
     unsigned from, to, flags, window;
     uint32_t seq, ack, count, mss;
     int shift;                             /* -1: no such option */
+    int permits;                           /* it permits SACK */
+    uint32_t blocks[MOST_BLOCKS][2];
+    unsigned block_count;
     const unsigned char *bytes;
 };
+
+static void read_blocks(struct segment *segment, const unsigned char *at)
+{
+    segment->block_count = 0;
+    for (const unsigned char *block = at + 2; block < at + at[1] && segment->block_count < MOST_BLOCKS; block += 8) {
+        segment->blocks[segment->block_count][0] = number_at(block);
+        segment->blocks[segment->block_count++][1] = number_at(block + 4);
+    }
+}
 
 static void read_options(struct segment *segment, const unsigned char *at, const unsigned char *end)
 {
@@ -94,6 +122,8 @@ static void read_options(struct segment *segment, const unsigned char *at, const
         if (at[0] > 3 && defect == UNKNOWN_OPTION_STOPS) return;
         if (at[0] == 2 && at[1] == 4) segment->mss = (uint32_t)(at[2] << 8 | at[3]);
         if (at[0] == 3 && at[1] == 3) segment->shift = at[2] < 14 ? at[2] : 14;
+        if (at[0] == 4 && at[1] == 2) segment->permits = 1;
+        if (at[0] == 5 && at[1] % 8 == 2) read_blocks(segment, at);
         at += at[1];
     }
 }
@@ -149,6 +179,64 @@ static unsigned offer(struct connection *c, int in_syn)
     return least(window >> (c->rcv_shift - (defect == WINDOW_DOUBLED && c->rcv_shift)), 65535);
 }
 
+/* ---- SACK: what the acknowledgments report (RFC 2018, 4) ---- */
+
+/* The bounds of the received bytes around `seq`, which come after a gap. */
+static void block_around(const struct connection *c, uint32_t seq, uint32_t *left, uint32_t *right)
+{
+    uint32_t base = c->rcv_nxt - c->unread, first = seq - base, last = first;
+    while (first > c->unread && c->have[first - 1]) first--;
+    while (last < c->room && c->have[last]) last++;
+    *left = base + first;
+    *right = base + last;
+}
+
+/* Bytes arrived after a gap, from `seq` on: the next acknowledgment reports their block first. */
+static void note_block(struct connection *c, uint32_t seq)
+{
+    uint32_t left, right, told[MOST_BLOCKS] = { seq };
+    unsigned kept = 1;
+    block_around(c, seq, &left, &right);
+    for (unsigned i = 0; i < c->blocks && kept < MOST_BLOCKS; i++)
+        if (before(c->told[i], left) || !before(c->told[i], right)) told[kept++] = c->told[i];
+    memcpy(c->told, told, sizeof told);
+    c->blocks = kept;
+}
+
+/* Writes an option with at most `most` blocks. Returns its length, 0 without blocks. */
+static unsigned put_blocks(const struct connection *c, unsigned char *options, unsigned most)
+{
+    unsigned count = 0, length;
+    for (unsigned i = 0; i < c->blocks && count < most; i++) {
+        uint32_t left, right, within = c->told[defect == OLDEST_BLOCK_FIRST ? c->blocks - 1 - i : i];
+        if (!before(c->rcv_nxt, within)) continue;
+        block_around(c, within, &left, &right);
+        int known = 0;
+        for (unsigned other = 0; other < count; other++) known |= number_at(options + 4 + 8 * other) == left;
+        if (known) continue;
+        put_number(options + 4 + 8 * count, left);
+        put_number(options + 8 + 8 * count++, right + (defect == BLOCK_TOO_WIDE));
+    }
+    if (!count) return 0;
+    length = 4 + 8 * count;
+    memcpy(options, (unsigned char[]){ 1, 1, 5, (unsigned char)(length - 2) }, 4);
+    return length;
+}
+
+/* The blocks of a segment with this many bytes. */
+static unsigned report(const struct connection *c, unsigned char *options, uint32_t count)
+{
+    if (!c->sack || c->fin_taken || defect == NO_BLOCKS) return 0;
+    return put_blocks(c, options, !count ? MOST_BLOCKS : c->mss >= ROOM_FOR_BLOCK);
+}
+
+/* The most bytes of a segment: the peer's MSS without our options (RFC 9293, 3.7.1). */
+static uint32_t segment_room(const struct connection *c)
+{
+    unsigned char options[4 + 8 * MOST_BLOCKS];
+    return c->mss - report(c, options, 1);
+}
+
 /* ---- Sending ---- */
 
 static uint32_t end_of(const struct connection *c) { return c->out_seq + c->queued; }
@@ -162,19 +250,28 @@ static uint32_t acknowledged_by(const struct connection *c)
 
 static void reply(struct connection *c, unsigned flags, uint32_t seq, uint32_t count)
 {
+    unsigned char options[4 + 8 * MOST_BLOCKS];
+    unsigned option_bytes = report(c, options, count);
     c->ack_due = 0;
     c->ack_at = NEVER;
-    leave(c->local, c->remote, seq, acknowledged_by(c), flags | ACK, offer(c, 0), NULL, 0, count ? c->out + (seq - c->out_seq) : NULL, count);
+    leave(c->local, c->remote, seq, acknowledged_by(c), flags | ACK, offer(c, 0), options, option_bytes,
+          count ? c->out + (seq - c->out_seq) : NULL, count);
 }
 
 static void acknowledge(struct connection *c) { reply(c, 0, c->max, 0); }
 
 static void send_syn(struct connection *c)
 {
-    unsigned char options[8] = { 2, 4, 0, 0, 1, 3, 3, (unsigned char)c->rcv_shift };
+    unsigned char options[12] = { 2, 4, 0, 0, 1, 3, 3, (unsigned char)c->rcv_shift };
     put_short(options + 2, config.mss);
     int answers = c->state == SYN_RECEIVED, scaling = !answers || c->send_shift >= 0;
-    leave(c->local, c->remote, c->iss, answers ? c->rcv_nxt : 0, SYN | (answers ? ACK : 0), offer(c, 1), options, scaling ? 8 : 4, NULL, 0);
+    unsigned length = scaling ? 8 : 4;
+    if (uses_sack && (!answers || c->sack)) {
+        memcpy(options + length, (unsigned char[]){ 1, 1, 4, 2 }, 4);
+        length += 4;
+    }
+    if (c->max != c->iss && defect != KARN_IGNORED) c->timing = 0;   /* it was sent before */
+    leave(c->local, c->remote, c->iss, answers ? c->rcv_nxt : 0, SYN | (answers ? ACK : 0), offer(c, 1), options, length, NULL, 0);
 }
 
 static void start_rto(struct connection *c)
@@ -183,11 +280,69 @@ static void start_rto(struct connection *c)
     c->rto_at = defect == NO_RETRANSMISSION ? NEVER : stack_now() + after;
 }
 
+/* ---- SACK: the scoreboard (RFC 6675) ---- */
+
+static int is_marked(const struct connection *c, uint32_t at, unsigned marks) { return (c->marks[at - c->out_seq] & marks) != 0; }
+
+/* How many bytes a segment may have from `seq` on, without one that has a mark of `marks`. */
+static uint32_t unmarked(const struct connection *c, uint32_t seq, unsigned marks)
+{
+    uint32_t most = least(end_of(c) - seq, segment_room(c)), count = 0;
+    while (count < most && !is_marked(c, seq + count, marks)) count++;
+    return count;
+}
+
+/* RFC 6675, 4: SetPipe. What was sent again is at its own place. After a timeout, all is sent again, up to `nxt`. */
+static uint32_t pipe_of(const struct connection *c)
+{
+    uint32_t pipe = 0;
+    for (uint32_t at = c->una; before(at, c->nxt); at++) {
+        if (is_marked(c, at, SACKED)) continue;
+        pipe += !c->fast || !before(at, c->lost);
+        pipe += c->fast && is_marked(c, at, AGAIN);
+    }
+    return pipe;
+}
+
+/* RFC 6675, 4: IsLost. A position is lost once more than two segments' bytes, or three blocks, are sacked after it. */
+static void find_lost(struct connection *c)
+{
+    uint32_t bytes = 0, blocks = 0;
+    for (c->lost = c->max; before(c->una, c->lost) && bytes <= 2 * c->mss && blocks < 3; c->lost--) {
+        if (!is_marked(c, c->lost - 1, SACKED)) continue;
+        bytes++;
+        blocks += c->lost == c->max || !is_marked(c, c->lost, SACKED);
+    }
+    if (bytes <= 2 * c->mss && blocks < 3) c->lost = c->una;
+}
+
+/* Where the next segment begins that is lost and wasn't sent again; `max` if there is none (RFC 6675, 4: NextSeg, rule 1). */
+static uint32_t next_lost(const struct connection *c)
+{
+    for (uint32_t at = c->una; before(at, c->lost); at++)
+        if (!is_marked(c, at, AGAIN) && (!is_marked(c, at, SACKED) || defect == SACKED_RESENT)) return at;
+    return c->max;
+}
+
+/* When a tail loss probe is due (RFC 8985, 7.2). */
+static void start_probe(struct connection *c)
+{
+    int sacked = 0;
+    c->probe_at = NEVER;
+    if (!c->sack || c->fast || c->probe || c->rto_at == NEVER || before(c->una, c->recover)) return;
+    for (uint32_t at = c->una; before(at, c->max); at++) sacked |= is_marked(c, at, SACKED);
+    if (sacked) return;
+    uint64_t after = c->sampled ? 2 * c->srtt : SECOND, at = stack_now() + (defect == PROBE_TOO_EARLY ? after / 4 : after);
+    c->probe_at = at < c->rto_at ? at : c->rto_at;
+}
+
+/* ---- Sending data ---- */
+
 /* Sends bytes from `seq` on, and a FIN after the last. A second transmission gives no sample (Karn's rule). */
 static void send_piece(struct connection *c, uint32_t seq, uint32_t count)
 {
-    int fin = c->shut && seq + count == end_of(c);
-    uint32_t next = seq + count + (uint32_t)fin;
+    int fin = c->shut && seq + count == end_of(c) && !is_marked(c, end_of(c), SACKED);
+    uint32_t next = seq + count + (uint32_t)fin, old = c->max;
     int again = before(seq, c->max);
     if (again && defect != KARN_IGNORED) c->timing = 0;
     else if (again || !c->timing) {
@@ -201,26 +356,56 @@ static void send_piece(struct connection *c, uint32_t seq, uint32_t count)
         c->stuck_since = stack_now();
         start_rto(c);
     }
+    for (uint32_t at = seq; before(at, old) && before(at, next); at++) c->marks[at - c->out_seq] |= AGAIN;
+    if (before(old, next)) start_probe(c);
     reply(c, (fin ? FIN : 0) | (count ? PSH : 0), seq, count);
+}
+
+/* Where the windows end: the peer's, and the one for congestion. With SACK, the latter counts what is in flight. */
+static uint32_t window_end(const struct connection *c)
+{
+    uint32_t window = defect == WINDOW_IGNORED ? SEND_ROOM : c->window, end = c->una + window;
+    if (!c->sack || before(end, c->nxt)) return c->una + least(window, c->sack ? window : c->cwnd);
+    uint32_t pipe = pipe_of(c);
+    return c->nxt + least(end - c->nxt, pipe < c->cwnd ? c->cwnd - pipe : 0);
 }
 
 /* How many bytes may be sent now from `nxt` on. RFC 9293, 3.8.6.2.1: a small segment only if it is the last, or half of the window. */
 static uint32_t sendable(struct connection *c)
 {
-    uint32_t window = defect == WINDOW_IGNORED ? SEND_ROOM : c->window;
-    uint32_t edge = c->una + least(window, c->cwnd), left = end_of(c) - c->nxt;
+    uint32_t edge = window_end(c), left = end_of(c) - c->nxt;
     if (!before(c->nxt, edge)) return 0;
-    uint32_t count = least(least(left, c->mss), edge - c->nxt);
-    return count == c->mss || count == left || count >= c->widest / 2 || before(c->nxt, c->max) || c->overridden ? count : 0;
+    uint32_t count = least(unmarked(c, c->nxt, SACKED), edge - c->nxt);
+    return count == segment_room(c) || count == left || count >= c->widest / 2 || before(c->nxt, c->max) || c->overridden ? count : 0;
+}
+
+/* In a recovery with SACK, sends what is lost, once. Returns whether new data may follow. */
+static int send_lost(struct connection *c)
+{
+    if (!c->sack || !c->fast) return 1;
+    for (uint32_t at = next_lost(c); at != c->max; at = next_lost(c)) {
+        if (pipe_of(c) + c->mss > c->cwnd) return 0;
+        send_piece(c, at, unmarked(c, at, defect == SACKED_RESENT ? AGAIN : SACKED | AGAIN));
+    }
+    return 1;
+}
+
+/* After a timeout, what was sacked since then isn't sent again. */
+static void skip_sacked(struct connection *c)
+{
+    while (before(c->nxt, c->max) && is_marked(c, c->nxt, SACKED)) c->nxt++;
 }
 
 static void output(struct connection *c)
 {
     int may_send = c->state >= ESTABLISHED && c->state != FIN_WAIT_2 && c->state != TIME_WAIT;
-    while (may_send && before(c->nxt, end_of(c))) {
+    int goes_on = may_send && send_lost(c);
+    if (may_send) skip_sacked(c);
+    while (goes_on && before(c->nxt, end_of(c))) {
         uint32_t count = sendable(c);
         if (!count) break;
         send_piece(c, c->nxt, count);
+        skip_sacked(c);
     }
     if (may_send && c->shut && c->nxt == end_of(c) && (c->window || defect != FIN_WAITS)) send_piece(c, c->nxt, 0);
     c->overridden = 0;
@@ -266,14 +451,16 @@ static void begin_congestion(struct connection *c)
 
 static void grow(struct connection *c, uint32_t acked)
 {
+    c->duplicates = 0;
+    if (c->fast && c->sack && before(c->una, c->recover)) return;
     if (c->fast) c->cwnd = c->ssthresh;
     else if (c->cwnd < c->ssthresh) c->cwnd += least(acked, c->mss);
     else c->cwnd += most_of(c->mss * c->mss / c->cwnd, 1);
-    c->fast = c->duplicates = 0;
+    c->fast = 0;
 }
 
 /* Retransmits the earliest segment, with the FIN if it was sent with it. */
-static void resend(struct connection *c) { send_piece(c, c->una, least(least(c->mss, end_of(c) - c->una), c->max - c->una)); }
+static void resend(struct connection *c) { send_piece(c, c->una, least(unmarked(c, c->una, SACKED), c->max - c->una)); }
 
 static void duplicate(struct connection *c)
 {
@@ -288,9 +475,45 @@ static void duplicate(struct connection *c)
     resend(c);
 }
 
+/* Marks what a segment's blocks report, if they end at most at `max`. Returns how many positions are newly sacked. */
+static uint32_t take_blocks(struct connection *c, const struct segment *s)
+{
+    uint32_t fresh = 0;
+    for (unsigned i = 0; i < s->block_count; i++) {
+        uint32_t left = s->blocks[i][0], right = s->blocks[i][1];
+        if (!before(left, right) || before(c->max, right)) continue;
+        for (uint32_t at = before(left, c->una) ? c->una : left; before(at, right); at++) {
+            fresh += !is_marked(c, at, SACKED);
+            c->marks[at - c->out_seq] |= SACKED;
+        }
+        fresh += defect == OLD_BLOCKS_COUNT;
+    }
+    return fresh;
+}
+
+/* The blocks of an acknowledgment: RFC 6675, 5. A duplicate is one that reports something new. What an earlier recovery sent again isn't
+ * lost again only because a new one begins. */
+static void come_blocks(struct connection *c, const struct segment *s)
+{
+    if (!c->sack || !take_blocks(c, s)) return;
+    find_lost(c);
+    c->probe_at = NEVER;
+    for (uint32_t at = c->una; before(at, c->max) && defect == LOST_RESENT_TWICE; at++) c->marks[at - c->out_seq] &= SACKED;
+    if (c->fast) return;
+    c->duplicates++;
+    uint32_t first = next_lost(c);
+    int starts = c->duplicates >= (defect == RECOVERY_AFTER_TWO ? 2 : 3) || first != c->max;
+    if (!starts || before(c->una, c->recover)) return;
+    c->ssthresh = c->cwnd = half_of_flight(c);
+    c->fast = 1;
+    c->recover = c->max;
+    if (first == c->max) resend(c);
+    else send_piece(c, first, unmarked(c, first, SACKED | AGAIN));
+}
+
 /* ---- Ends ---- */
 
-static void stop_timers(struct connection *c) { c->rto_at = c->persist_at = c->override_at = c->end_at = c->ack_at = NEVER; }
+static void stop_timers(struct connection *c) { c->rto_at = c->persist_at = c->override_at = c->end_at = c->ack_at = c->probe_at = NEVER; }
 
 static void end(struct connection *c, long fault)
 {
@@ -350,7 +573,8 @@ static struct connection *new_connection(enum state state, unsigned local, unsig
     c->out = malloc(SEND_ROOM);
     c->in = malloc(c->room);
     c->have = calloc(c->room, 1);
-    if (!c->out || !c->in || !c->have) abort();
+    c->marks = calloc(SEND_ROOM + 1, 1);
+    if (!c->out || !c->in || !c->have || !c->marks) abort();
     return c;
 }
 
@@ -370,6 +594,7 @@ static void take_syn(struct connection *c, const struct segment *s)
     c->rcv_nxt = c->edge = c->farthest = s->seq + 1;
     c->mss = defect == MSS_IGNORED ? most_of(config.mss, USUAL_MSS) : s->mss;
     c->send_shift = s->shift;
+    c->sack = uses_sack && (s->permits || defect == BLOCKS_UNPERMITTED);
     if (s->shift < 0) c->rcv_shift = 0;
 }
 
@@ -388,6 +613,14 @@ static void take_window(struct connection *c, const struct segment *s)
     c->wl2 = s->ack;
 }
 
+/* The acknowledgment of a probe. If that was sent again, it may have repaired a loss (RFC 8985, 7.4.2). */
+static void end_probe(struct connection *c, uint32_t ack)
+{
+    if (!c->probe || before(ack, c->probe_end)) return;
+    if (c->probe == OLD_PROBE) c->ssthresh = c->cwnd = least(c->cwnd, half_of_flight(c));
+    c->probe = NO_PROBE;
+}
+
 static void take_acknowledged(struct connection *c, uint32_t ack)
 {
     uint32_t acked = ack - c->una, bytes = before(c->out_seq, ack) ? least(ack - c->out_seq, c->queued) : 0;
@@ -396,6 +629,9 @@ static void take_acknowledged(struct connection *c, uint32_t ack)
         c->timing = 0;
     }
     if (bytes) memmove(c->out, c->out + bytes, c->queued - bytes);
+    memmove(c->marks, c->marks + bytes, SEND_ROOM + 1 - bytes);
+    memset(c->marks + SEND_ROOM + 1 - bytes, 0, bytes);
+    end_probe(c, ack);
     c->queued -= bytes;
     c->out_seq += bytes;
     c->una = ack;
@@ -405,6 +641,7 @@ static void take_acknowledged(struct connection *c, uint32_t ack)
     c->rto_at = NEVER;
     c->stuck_since = stack_now();
     if (c->una != c->max) start_rto(c);
+    start_probe(c);
 }
 
 static unsigned waiting_at(const struct connection *listener)
@@ -473,9 +710,10 @@ static void come_reset(struct connection *c, const struct segment *s)
     else end(c, c->state < CLOSING ? STACK_RESET : 0);
 }
 
+/* A challenge (RFC 5961, 4). Without the option `sack`, SYN-RECEIVED sends its SYN ACK again instead, which only `full` permits. */
 static void come_syn(struct connection *c)
 {
-    if (c->state == SYN_RECEIVED) send_syn(c);
+    if (c->state == SYN_RECEIVED && !uses_sack) send_syn(c);
     else acknowledge(c);
 }
 
@@ -503,7 +741,8 @@ static int come_acknowledgment(struct connection *c, const struct segment *s)
     int is_newer = before(c->wl1, s->seq) || (c->wl1 == s->seq && !before(s->ack, c->wl2));
     if ((takes && (is_newer || defect == WINDOW_OF_OLDER_SEGMENT)) || defect == WINDOW_OF_OLDER_ACK) take_window(c, s);
     if (is_new) take_acknowledged(c, s->ack);
-    else if (s->ack == c->una && c->max != c->una && !length_of(s) && window == c->window && window) duplicate(c);
+    else if (!c->sack && s->ack == c->una && c->max != c->una && !length_of(s) && window == c->window && window) duplicate(c);
+    come_blocks(c, s);
     if (!fin_sent || c->una != c->max) return 1;
     if (c->state == FIN_WAIT_1) c->state = FIN_WAIT_2;
     else if (c->state == CLOSING) wait_out(c);
@@ -527,6 +766,7 @@ static void keep_bytes(struct connection *c, const struct segment *s)
         c->unread++;
         c->rcv_nxt++;
     }
+    if (c->sack && before(c->rcv_nxt, s->seq) && before(s->seq, c->edge) && s->count) note_block(c, s->seq);
 }
 
 static void deliver_again(struct connection *c, const struct segment *s)
@@ -633,6 +873,10 @@ static void expire_rto(struct connection *c)
     if (defect != NO_COLLAPSE) c->cwnd = c->mss;
     c->fast = c->duplicates = 0;
     c->recover = c->max;
+    c->probe_at = NEVER;
+    c->probe = NO_PROBE;
+    /* RFC 2018, 8: the peer may have discarded what it reported. */
+    if (defect != SCOREBOARD_KEPT) memset(c->marks, 0, SEND_ROOM + 1);
     if (c->una == end_of(c) && defect == FIN_NOT_RESENT) return;
     c->nxt = c->una;
     resend(c);
@@ -650,11 +894,34 @@ static void expire_persist(struct connection *c)
     if (before(c->max, c->una + 1)) c->max = c->una + 1;
 }
 
+/* RFC 8985, 7.3: a probe is new data, if the window has room for it, else the last segment. */
+static void expire_probe(struct connection *c)
+{
+    uint32_t end = end_of(c), window = c->una + c->window;
+    stack_expired(c->local, c->remote, "pto");
+    c->probe_at = NEVER;
+    start_rto(c);
+    uint32_t count = before(c->nxt, end) && before(c->nxt, window) ? least(least(end - c->nxt, segment_room(c)), window - c->nxt) : 0;
+    c->probe = count ? NEW_PROBE : OLD_PROBE;
+    if (count) send_piece(c, c->nxt, count);
+    else {
+        uint32_t last = before(end, c->max) ? end : c->max;
+        count = least(last - c->una, segment_room(c));
+        send_piece(c, last - count, count);
+    }
+    c->probe_end = c->max;
+    if (defect == PROBE_REPEATED) {
+        c->probe = NO_PROBE;
+        start_probe(c);
+    }
+}
+
 void stack_tick(void)
 {
     uint64_t now = stack_now();
     for (int i = 0; i < opened; i++) {
         struct connection *c = &connections[i];
+        if (c->probe_at <= now) expire_probe(c);
         if (c->rto_at <= now) expire_rto(c);
         if (c->persist_at <= now) expire_persist(c);
         if (c->ack_at <= now) acknowledge(c);
@@ -675,8 +942,8 @@ uint64_t stack_next(void)
     uint64_t next = NEVER;
     for (int i = 0; i < opened; i++) {
         const struct connection *c = &connections[i];
-        const uint64_t timers[] = { c->rto_at, c->persist_at, c->override_at, c->end_at, c->ack_at };
-        for (int t = 0; t < 5; t++)
+        const uint64_t timers[] = { c->rto_at, c->persist_at, c->override_at, c->end_at, c->ack_at, c->probe_at };
+        for (int t = 0; t < 6; t++)
             if (timers[t] < next) next = timers[t];
     }
     return next;
@@ -688,6 +955,7 @@ long stack_start(const struct stack_config *wanted)
 {
     const char *name = getenv("TOY_DEFECT");
     config = *wanted;
+    uses_sack = strstr(wanted->options, "sack") != NULL;
     if (!name || !*name) return STACK_OK;
     for (int i = 1; i < DEFECTS; i++)
         if (!strcmp(name, defect_names[i])) defect = (enum defect)i;
