@@ -4,4 +4,8 @@ pub mod Positions
 pub mod Syns
 pub mod Taking
 pub mod Stays
+pub mod Numbers
+pub mod Knowing
+pub mod Keeping
+pub mod Reporting
 pub mod Facts

@@ -75,7 +75,7 @@ module _ (h : Header) where
   lawful_take w (x ∷ xs) may zero = tt
   lawful_take w (x ∷ xs) may (suc n) = (may.0, lawful_take (after (tcp h) x.moment w x.step) xs may.1 n)
 
-  permitted_at : (w : World tcp_shape) (xs : List (Stamped tcp_shape)) → Lawful (tcp h) w xs → (place : ℕ) (x : Stamped tcp_shape)
+  pub permitted_at : (w : World tcp_shape) (xs : List (Stamped tcp_shape)) → Lawful (tcp h) w xs → (place : ℕ) (x : Stamped tcp_shape)
       → slice_get xs place ≡ Some x → Permitted (tcp h) x.moment (after_all (tcp h) w (take place xs)) x.step
   permitted_at w [] may place x is = absurd (none-some x is)
   permitted_at w (y ∷ xs) may zero x is = subst (λ (z : Stamped tcp_shape). Permitted (tcp h) z.moment w z.step) (same_Some y x is) may.0

@@ -145,7 +145,7 @@ module _ (h : Header) (xs : List (Stamped tcp_shape)) where
         (moment clock : ℕ) (event : Event) (before : View) → Happens (observed h xs place) me event before
         → Q (flight_after moment clock (observed h xs place) (touched me event before) (seen_before h xs (suc place) me) (flight_before place me))
 
-    place_after : (place : ℕ)
+    pub place_after : (place : ℕ)
         → (((event : Event) (before : View) → Happens (observed h xs place) me event before → ⊥) → Q (flight_before place me)) → Keeps place
         → Q (flight_before (suc place) me)
     place_after place old new = by (slice_get xs place) refl

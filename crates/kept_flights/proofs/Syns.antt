@@ -4,6 +4,7 @@ use Rattle.std.specs.Prelude.{◌&&◌, if◌then◌else◌, not, slice_get}
 use Rattle.std.specs.Map.{lookup}
 use Rattle.std.specs.Option.{option_map, option_map_or}
 use Rattle.std.proofs.lemmas.Option.{none-some, same_Some, slice_get_past}
+use Rattle.seqno.specs.declared.word.Word.{Word}
 use Rattle.segment.specs.Reading.{permits_sack}
 use Rattle.case_forms.specs.States.{is_syn_sent}
 use Rattle.case_forms.specs.Versions.{is_half, says_sender}
@@ -118,6 +119,8 @@ pub record TakesSyn (h : Header) (moment : ℕ) (w : World tcp_shape) (step : St
   pub now : Endpoint
   pub there : find (after (tcp h) moment w step).hosts me ≡ Some now
   pub answered : Answered now.state
+  pub irs : Word
+  pub known : now.irs ≡ Some irs
 
 pick_here : {X : Type 0} (both : Both X) (host : Host) (x : X) → pick (with_host both host x) host ≡ x
 pick_here both Zero x = refl
@@ -148,6 +151,8 @@ module _ (h : Header) (moment : ℕ) (w : World tcp_shape) (host : Host) (line :
     now = child (profile_of h) l how m moment;
     there = found m (AtListener l) (length b.endpoints) waits is ∙ last_there b.endpoints (child (profile_of h) l how m moment);
     answered = refl;
+    irs = m.seq;
+    known = refl;
   }
 
   read_reset : (e : Endpoint) (m : Emission) → m.flags.rst ≡ false → (as_read h.version e m).flags.rst ≡ false
@@ -170,6 +175,15 @@ module _ (h : Header) (moment : ℕ) (w : World tcp_shape) (host : Host) (line :
       by false false p s = absurd cc
       by false true p s = state r.flags.ack
 
+  learns : (e : Endpoint) (r : Emission) → r.flags.rst ≡ false → is_syn_sent e.state ≡ true → (endpoint_taken h e how r moment).irs ≡ Some r.seq
+  learns e r plain sent = by r.flags.rst (is_syn_sent e.state) plain sent
+    where
+      by : (rst waits : Bool) → rst ≡ false → waits ≡ true
+          → (if rst then was_reset e how moment else if waits then on_syn h e how r moment else taken h e how r moment).irs ≡ Some r.seq
+      by true waits p s = absurd cc
+      by false false p s = absurd cc
+      by false true p s = refl
+
   by_endpoint : (m : Emission) (i : ℕ) (e : Endpoint) → waiting line (pick w.hosts host).inbox ≡ Some m → taker b m ≡ AtEndpoint i e
       → m.flags.rst ≡ false → is_syn_sent e.state ≡ true → TakesSyn h moment w (At host (Takes line how)) (record { host = host; number = i })
   by_endpoint m i e waits is plain sent =
@@ -180,6 +194,8 @@ module _ (h : Header) (moment : ℕ) (w : World tcp_shape) (host : Host) (line :
         now = endpoint_taken h e how r moment;
         there = found m (AtEndpoint i e) i waits is ∙ modify_here (λ x. endpoint_taken h x how r moment) b.endpoints i e there;
         answered = leaves e r (read_reset e m plain) sent;
+        irs = r.seq;
+        known = learns e r (read_reset e m plain) sent;
       }
 
   -- by what it shows at an endpoint
@@ -247,7 +263,7 @@ takes_syn_there h moment w step me event before permits alone here syn = absurd 
 
 -- so it takes one once
 module _ (h : Header) (xs : List (Stamped tcp_shape)) (me : EndpointId) where
-  shown_at : (place : ℕ) (permits alone : Bool) → HasSyn h xs place me (syn_change.Takes permits alone)
+  pub shown_at : (place : ℕ) (permits alone : Bool) → HasSyn h xs place me (syn_change.Takes permits alone)
       → (x : Stamped tcp_shape) × (slice_get xs place ≡ Some x) × TakesSyn h x.moment (world_before h xs place) x.step me
   shown_at place permits alone syn = by (slice_get xs place) refl syn.2 syn.3
     where
