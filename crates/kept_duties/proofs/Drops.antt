@@ -43,8 +43,9 @@ use Rattle.spec_duties.specs.declared.events.Event.TheVariants.{Drops}
 use Rattle.spec_duties.specs.declared.observations.Droppable.TheVariants as droppables
 use Rattle.spec_duties.specs.declared.observations.Observation.{Observation}
 use Rattle.spec_duties.specs.declared.observations.TouchedEndpoint.{TouchedEndpoint}
-use Rattle.spec_flights.specs.Clocks.{Clocks, are_stamped, is_older, is_outdated, is_unstamped}
+use Rattle.spec_flights.specs.Clocks.{are_stamped, is_older, is_outdated, is_unstamped}
 use Rattle.spec_flights.specs.Flights.{excused, flight_at}
+use Rattle.spec_flights.specs.declared.clocks.Clocks.{Clocks}
 use Rattle.kept_duties.specs.Drops.{AcknowledgesLess, HasOldNumber}
 use Rattle.kept_duties.specs.Drops.{ByClock, ByListener, DropsAreLawful, HoldsNext, IsChallenged, IsMistimed, MayBeDropped, IsDroppable}
 use Rattle.kept_duties.specs.Drops.{MeetsClosedWindow, NextIsKept, clocks_before, host_before, keeps_next}

@@ -1,6 +1,6 @@
 -- What duties see of a step, where timestamps excuse that a segment is dropped: whether it asks for an acknowledgment may
 -- be another, and whether it may be dropped. All else is as the step shows it.
-use Rattle.std.proofs.Common.{◌≡◌, ℕ, ◌⊎◌, inl, inr, Bool, true, false, List, Option, Some, None, refl, ap, sym, subst, ◌∙◌}
+use Rattle.std.proofs.Common.{◌≡◌, ℕ, ◌⊎◌, inl, inr, Bool, true, false, List, Option, Some, None, refl, ap, subst, ◌∙◌}
 use Rattle.std.specs.Prelude.{◌&&◌, ◌||◌, if◌then◌else◌, is_some, nat_eq, not}
 use Rattle.std.specs.List.{AllByRecursion}
 use Rattle.std.specs.Option.{option_map}
@@ -30,8 +30,9 @@ use Rattle.spec_duties.specs.declared.strict.Unsent.{Unsent}
 use Rattle.spec_duties.specs.declared.tables.Built.{Built}
 use Rattle.spec_duties.specs.declared.tables.Listening.{Listening}
 use Rattle.spec_duties.specs.declared.views.View.{View}
-use Rattle.spec_flights.specs.Clocks.{Clocks, dropping_excused, event_excused, excused_at, excused_by, is_outdated, is_unstamped}
+use Rattle.spec_flights.specs.Clocks.{dropping_excused, event_excused, excused_at, excused_by, is_outdated, is_unstamped}
 use Rattle.spec_flights.specs.Flights.{Flights, excused, flight_at}
+use Rattle.spec_flights.specs.declared.clocks.Clocks.{Clocks}
 
 -- ---- events
 

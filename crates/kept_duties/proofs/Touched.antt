@@ -54,7 +54,7 @@ use Rattle.spec_duties.specs.Observations.{observe_accept, at_drop, at_place, at
 use Rattle.spec_duties.specs.Observations.{is_done, observe_other, processing_of, sending_of, observe, unseen, view_in}
 use Rattle.spec_duties.specs.Views.{unborn, view_of}
 use Rattle.spec_duties.specs.Strict.{brought_by}
-use Rattle.spec_duties.specs.Watching.{Duties, built_by, counts_now, duty_rules, judged_lates}
+use Rattle.spec_duties.specs.Watching.{built_by, counts_now, judged_lates}
 use Rattle.spec_duties.specs.Watching.{listener_closed, owed_by, owed_table_after, sends_in_excess, sent_by}
 use Rattle.spec_duties.specs.Watching.{answer_rules, touched_rules}
 use Rattle.spec_duties.specs.declared.events.Event.{Event}

@@ -31,8 +31,9 @@ use Rattle.spec_tcp.specs.declared.endpoint.Emission.{Emission}
 use Rattle.spec_tcp.specs.declared.endpoint.Endpoint.{Endpoint}
 use Rattle.spec_tcp.specs.declared.endpoint.Listener.{Listener}
 use Rattle.spec_duties.specs.Watching.{listening_at}
-use Rattle.spec_flights.specs.Clocks.{Clocks, are_stamped, is_older}
+use Rattle.spec_flights.specs.Clocks.{are_stamped, is_older}
 use Rattle.spec_flights.specs.Flights.{flight_at}
+use Rattle.spec_flights.specs.declared.clocks.Clocks.{Clocks}
 use Rattle.kept_duties.specs.Happens.{known_before, world_before}
 use Rattle.kept_duties.specs.Places.{IsStep}
 

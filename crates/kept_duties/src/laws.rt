@@ -27,7 +27,8 @@ pub fn arrivals_are_handled()
 {}
 
 /// Each segment that was dropped may be: to process it would break a rule of the model, or it need not be processed;
-/// and to answer it with a reset would break one, or an acknowledgment is as good (RFC 9293, 3.10.7).
+/// and to answer it with a reset would break one, or an acknowledgment is as good (RFC 9293, 3.10.7). In version 6, a
+/// timestamp that is missing or too old excuses it, too (RFC 7323, 3.2 and 5.3).
 pub fn drops_are_lawful()
     ensures { (t : Trace) (w : Witness) (slack : ℕ) → Explains t w → t.header.slack ≡ Some slack → DropsAreLawful t w }
 {}

@@ -1,6 +1,6 @@
 -- What duties see of a step, where timestamps excuse that a segment is dropped.
-use Rattle.std.proofs.Common.{◌≡◌, ℕ, Bool, true, false, Option, None, Some, refl, ap, sym, ◌∙◌}
-use Rattle.std.specs.Prelude.{if◌then◌else◌, is_some, nat_eq}
+use Rattle.std.proofs.Common.{◌≡◌, ℕ, Bool, true, false, Option, None, Some, refl, ap}
+use Rattle.std.specs.Prelude.{◌&&◌, if◌then◌else◌, is_some, nat_eq, not}
 use Rattle.std.specs.Map.{lookup}
 use Rattle.std.specs.Option.{option_map}
 use Rattle.case_forms.specs.Versions.{says_sender}
@@ -12,7 +12,6 @@ use Rattle.case_forms.specs.declared.calls.Host.{Host}
 use Rattle.case_forms.specs.declared.taken_line.TakenLine.{TakenLine}
 use Rattle.case_forms.specs.declared.taken_line.TakenLine.TheVariants as taken
 use Rattle.case_forms.specs.declared.trace.Header.{Header}
-use Rattle.case_forms.specs.declared.trace.Wire.{Wire}
 use Rattle.spec_network.specs.HostRules.{aim_of}
 use Rattle.spec_network.specs.Hosts as network
 use Rattle.spec_network.specs.Hosts.{Answered, Called, HostState, HostStep, Idle, Step, Turn, World, turn_of}
@@ -25,15 +24,16 @@ use Rattle.spec_tcp.specs.declared.endpoint.Emission.{Emission}
 use Rattle.spec_tcp.specs.declared.endpoint.SocketTarget.{SocketTarget}
 use Rattle.spec_tcp.specs.declared.endpoint.SocketTarget.TheVariants.{EndpointAt, ListenerAt}
 use Rattle.spec_duties.specs.Observations.{at_sender, is_done, observe, observe_accept, observe_call, observe_close, observe_effect, observe_host_step}
-use Rattle.spec_duties.specs.Observations.{observe_opened, observe_other, observe_pending, observe_taking, syn_sent, unseen, view_in}
+use Rattle.spec_duties.specs.Observations.{observe_opened, observe_other, observe_taking, syn_sent, unseen, view_in}
 use Rattle.spec_duties.specs.Arrivals.{stamps_read}
 use Rattle.spec_duties.specs.declared.observations.BuiltChange.TheVariants as built_change
 use Rattle.spec_duties.specs.declared.observations.Dropping.{Dropping}
 use Rattle.spec_duties.specs.declared.observations.Observation.{Observation}
 use Rattle.spec_duties.specs.declared.observations.Queueing.TheVariants as queueing
 use Rattle.spec_duties.specs.declared.observations.TouchedEndpoint.{TouchedEndpoint}
-use Rattle.spec_flights.specs.Clocks.{Clocks, excused_at, excused_by, is_outdated, is_unstamped, touched_excused}
+use Rattle.spec_flights.specs.Clocks.{excused_at, excused_by, is_outdated, is_unstamped, touched_excused}
 use Rattle.spec_flights.specs.Flights.{Flights, excused, flight_at}
+use Rattle.spec_flights.specs.declared.clocks.Clocks.{Clocks}
 use Rattle.spec_cases.specs.Cases.{Known, shown}
 use Rattle.watched.specs.Levels.{EndsBelow, observed_with, touched_with}
 

@@ -41,7 +41,7 @@ use Rattle.spec_duties.specs.declared.observations.SynChange.TheVariants as syn
 use Rattle.spec_duties.specs.declared.observations.TouchedEndpoint.{TouchedEndpoint}
 use Rattle.spec_duties.specs.Views.{view_of}
 use Rattle.spec_duties.specs.declared.views.View.{View}
-use Rattle.spec_flights.specs.Clocks.{Clocks, clocks_after, clocks_told, most_after, told_after}
+use Rattle.spec_flights.specs.Clocks.{clocks_after, clocks_told, most_after, told_after}
 use Rattle.spec_flights.specs.Delivered.{read_reports, without_reports}
 use Rattle.spec_flights.specs.Flights.{Flight, Flights, board_after, broken_at, flight_after, flight_at, flight_by, flights_touched, may_begin}
 use Rattle.spec_flights.specs.Flights.{marks_oldest, may_be_probed, may_go_again, refusal, rescued_after}
@@ -54,11 +54,13 @@ use Rattle.spec_flights.specs.declared.probing.Probing.{Probing}
 use Rattle.spec_flights.specs.Recovering.{is_recovering, recovery_after}
 use Rattle.spec_flights.specs.Scoreboard.{number_built, Scoreboard}
 use Rattle.spec_flights.specs.Sides.{sides_after}
-use Rattle.spec_flights.specs.Undoing.{Undoing, undoing_after}
+use Rattle.spec_flights.specs.Undoing.{undoing_after}
+use Rattle.spec_flights.specs.declared.clocks.Clocks.{Clocks}
 use Rattle.spec_flights.specs.declared.recovery.Recovery.{Recovery}
 use Rattle.spec_flights.specs.declared.reports.Reports.{Reports}
 use Rattle.spec_flights.specs.declared.sides.Sides.{Sides}
 use Rattle.spec_flights.specs.declared.stretch.Stretch.{Stretch}
+use Rattle.spec_flights.specs.declared.undoing.Undoing.{Undoing}
 use Rattle.spec_cases.specs.Cases.{Known, flown, model_rules, refused_at, refused_by, with_broken, with_refusal}
 use Rattle.watched.specs.Levels.{ShowsHigher, is_old_data, known_judged, observed_with, remaining, touched_with, view_with}
 use Rattle.watched.proofs.LevelObservations.{shows_the_same, view_seen}
@@ -569,13 +571,13 @@ recovers_levels : (v : Version) (repeats : Bool) (clock : ℕ) (change : Recover
     → IsLevels v (broken_at repeats clock (Recovers change) seen f)
 recovers_levels v repeats clock change seen f = at change
   where
-    at : (change : RecoveryChange) → IsLevels v (broken_at repeats clock (Recovers change) seen f)
-    at Begins = by (repeats && not (may_begin clock seen f))
-    at IsUndone = by (not f.undoing.is_spurious)
-
     by : (b : Bool) → IsLevels v (if b then Some rules.Recovery else None)
     by true = tt
     by false = tt
+
+    at : (change : RecoveryChange) → IsLevels v (broken_at repeats clock (Recovers change) seen f)
+    at Begins = by (repeats && not (may_begin clock seen f))
+    at IsUndone = by (not f.undoing.is_spurious)
 
 expires_timers : (repeats : Bool) (clock : ℕ) (timer : Timer) (seen : View) (f : Flight) → IsTimers (broken_at repeats clock (Expires timer) seen f)
 expires_timers repeats clock Rto seen f = tt

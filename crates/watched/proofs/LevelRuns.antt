@@ -6,6 +6,7 @@ use Rattle.std.proofs.lemmas.Bool.Decides.{nat_tests}
 use Rattle.case_forms.specs.Versions.{says_sender}
 use Rattle.case_forms.specs.declared.calls.Host.{Host}
 use Rattle.case_forms.specs.declared.calls.Host.TheVariants.{Zero, One}
+use Rattle.case_forms.specs.declared.timer.RecoveryChange.TheVariants.{Begins, IsUndone}
 use Rattle.case_forms.specs.declared.timer.Timer.TheVariants.{Giveup, Msl2, Persist, Pto, Rto}
 use Rattle.case_forms.specs.declared.trace.Header.{Header}
 use Rattle.case_forms.specs.declared.version.Judged.{Judged}
@@ -74,7 +75,8 @@ owed_same (Expires Persist) a b before after moment closed counts o = refl
 owed_same (Expires Msl2) a b before after moment closed counts o = refl
 owed_same (Expires Giveup) a b before after moment closed counts o = refl
 owed_same (Expires Pto) a b before after moment closed counts o = refl
-owed_same (Recovers change) a b before after moment closed counts o = refl
+owed_same (Recovers Begins) a b before after moment closed counts o = refl
+owed_same (Recovers IsUndone) a b before after moment closed counts o = refl
 
 mere_same : (a b : ℕ) (after : View) (t : TouchedEndpoint) → builds_mere_ack (view_with b after) (touched_with a t) ≡ builds_mere_ack after t
 mere_same a b after t = by t.event

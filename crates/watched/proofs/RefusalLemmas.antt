@@ -218,15 +218,15 @@ recovering_among : (h : Header) (clock moment : ℕ) (x : Recovery) (e : Endpoin
     (recovery_rules h.version e x.change x.cwnd x.ssthresh moment)
 recovering_among h clock moment x e v f = at x.change
   where
+    by : (b : Bool) → IsAmong (if b then Some rules.Recovery else None) (recovery_rules h.version e x.change x.cwnd x.ssthresh moment)
+    by true = refl
+    by false = tt
+
     at : (change : RecoveryChange)
         → IsAmong (broken_at (judges_repeats h.congestion) clock (events.Recovers change) v f)
         (recovery_rules h.version e x.change x.cwnd x.ssthresh moment)
     at Begins = by (judges_repeats h.congestion && not (may_begin clock v f))
     at IsUndone = by (not f.undoing.is_spurious)
-
-    by : (b : Bool) → IsAmong (if b then Some rules.Recovery else None) (recovery_rules h.version e x.change x.cwnd x.ssthresh moment)
-    by true = refl
-    by false = tt
 
 expiring_among : (h : Header) (clock moment : ℕ) (x : Expired) (e : Endpoint) (v : View) (f : Flight)
     → IsAmong (broken_at (judges_repeats h.congestion) clock (events.Expires (timer_of x)) v f) (expiry_rules h moment e x)

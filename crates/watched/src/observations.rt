@@ -322,7 +322,7 @@ pub(crate) fn observe_sending(world: &World, host: Host, number: u32, wire: &Wir
             touched: at_sender(host, world.body(host), wire, made.emission()),
             built_change: BuiltChange::Sends(number),
             syn_change: syn_sent(world.header().version, made.emission(), &wire.bytes),
-            stamps: stamps_read(world.header().version, &wire.bytes),
+            stamps: stamps_read(world.header().version, wire.bytes.as_slice()),
             ..unseen()
         },
         None => unseen(),
