@@ -200,7 +200,7 @@ impl Flights {
         no_clocks()
     }
 
-    // What duties see of a step at an endpoint.
+    // What duties see of a step at an endpoint. Most steps drop nothing.
     fn excused_by(&self, touched: &TouchedEndpoint, seen: &Observation) -> Observation
         ensures { result ≡ excused_at (flight_at self.now touched.now.host touched.now.place).clocks seen.now }
     {
@@ -210,7 +210,8 @@ impl Flights {
         excused_at(self.clocks_at(touched.host, touched.place), seen)
     }
 
-    /// What duties see of a step: an endpoint may drop a segment that is too old by its timestamps, or lacks them.
+    /// What duties see of a step: an endpoint may drop a segment that is too old by its timestamps, or lacks them. In
+    /// versions 1 to 5 it may not.
     #[inline(always)]
     pub fn excused(&self, header: &Header, seen: &Observation) -> Observation
         ensures { result ≡ excused header.now self.now seen.now }

@@ -1,6 +1,7 @@
 //! When an acknowledgment shows that a recovery wasn't needed (RFC 3522, 3.2; RFC 5682, 3).
 
-ghost use Rattle.std.specs.Prelude.{◌≡◌, ◌&&◌, not, is_some};
+ghost use Rattle.std.specs.Prelude.{◌≡◌, ◌&&◌, false, is_some, None, not, Some};
+ghost use Rattle.std.specs.Option.{option_map};
 ghost use Rattle.spec_flights.specs.Undoing.{again_built, again_sent, answers_earlier, any_below, delivers_below};
 ghost use Rattle.spec_flights.specs.Undoing.{delivers_earlier, echoes_older, needed, shows_spurious, undoing_after};
 ghost use Rattle.spec_flights.specs.Delivered.{within};
@@ -58,6 +59,16 @@ fn again_sent(number: u32, stamps: Option<TimestampPair>, again: Again) -> Again
             None => None,
         },
         ..again
+    }
+}
+
+// The same, if anything was.
+fn again_shown(number: u32, stamps: Option<TimestampPair>, again: Option<Again>) -> Option<Again>
+    ensures { result ≡ option_map (again_sent number stamps) again }
+{
+    match again {
+        Some(again) => Some(again_sent(number, stamps, again)),
+        None => None,
     }
 }
 
@@ -151,7 +162,25 @@ impl Flight {
         }
     }
 
-    // Whether this is the first segment in a recovery that goes again.
+    // The recovery that begins with a timeout.
+    fn begun(&self, before: &View) -> Undoing
+        ensures { result ≡ record {
+          again = None;
+          timeout = Some (record { snd_una = before.now.snd_una; newest = self.now.board.newest });
+          is_spurious = false;
+        } }
+    {
+        Undoing {
+            again: None,
+            timeout: Some(Began {
+                snd_una: before.snd_una,
+                newest: self.board.newest,
+            }),
+            is_spurious: false,
+        }
+    }
+
+    // Whether a segment is the first in a recovery that goes again.
     fn is_first_again(&self, before: &View, plan: &SegmentPlan) -> bool
         ensures { result ≡ (not (is_some self.now.undoing.again) && is_recovering before.now self.now.recovery
             && goes_again before.now plan.now) }
@@ -175,46 +204,31 @@ impl Flight {
     {
         let before = &touched.before;
         let it = self.undoing;
+        let (mut again, mut is_spurious) = (it.again, it.is_spurious);
         match &touched.event {
-            Event::Expires(Timer::Rto) => Undoing {
-                again: None,
-                timeout: Some(Began {
-                    snd_una: before.snd_una,
-                    newest: self.board.newest,
-                }),
-                is_spurious: false,
-            },
-            Event::Recovers(_) => needed(),
-            Event::Builds(plan) => Undoing {
-                again: again_built(
-                    number_built(seen.built_change),
-                    plan,
-                    self.is_first_again(before, plan),
-                    it.again,
-                ),
-                ..it
-            },
-            Event::Sends(_) => Undoing {
-                again: match it.again {
-                    Some(again) => Some(again_sent(
-                        number_sent(seen.built_change),
-                        seen.stamps,
-                        again,
-                    )),
-                    None => None,
-                },
-                ..it
-            },
-            Event::Processes { .. } => Undoing {
-                is_spurious: it.is_spurious
+            Event::Expires(Timer::Rto) => return self.begun(before),
+            Event::Recovers(_) => return needed(),
+            Event::Builds(plan) => {
+                let first = self.is_first_again(before, plan);
+                again = again_built(number_built(seen.built_change), plan, first, again);
+            }
+            Event::Sends(_) => {
+                again = again_shown(number_sent(seen.built_change), seen.stamps, again);
+            }
+            Event::Processes { .. } => {
+                is_spurious = is_spurious
                     || is_recovering(before, self.recovery)
-                        && self.shows_spurious(seen, before, after, sides, r),
-                ..it
-            },
+                        && self.shows_spurious(seen, before, after, sides, r);
+            }
             Event::Opens
             | Event::Calls { .. }
             | Event::Drops { .. }
-            | Event::Expires(Timer::Persist | Timer::Msl2 | Timer::Giveup | Timer::Pto) => it,
+            | Event::Expires(Timer::Persist | Timer::Msl2 | Timer::Giveup | Timer::Pto) => {}
+        }
+        Undoing {
+            again,
+            timeout: it.timeout,
+            is_spurious,
         }
     }
 }
