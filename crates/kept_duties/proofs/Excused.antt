@@ -75,8 +75,11 @@ as_itself (Recovers change) = refl
 
 -- ---- a step
 
+abbrev pub touch_judged : (Event → Event) → TouchedEndpoint → TouchedEndpoint
+touch_judged judge t = record t { event = judge t.event }
+
 abbrev pub judged_by : (Event → Event) → Option TouchedEndpoint → Option TouchedEndpoint
-judged_by judge o = option_map (λ t. record t { event = judge t.event }) o
+judged_by judge o = option_map (touch_judged judge) o
 
 -- what duties see of what a step shows
 pub record Sees (h : Header) (s e : Observation) : Type 0 where
