@@ -1,5 +1,5 @@
 -- What duties see of a step, where timestamps excuse that a segment is dropped.
-use Rattle.std.proofs.Common.{◌≡◌, ℕ, Bool, true, false, Option, None, Some, refl, ap}
+use Rattle.std.proofs.Common.{◌≡◌, ℕ, Bool, true, false, Option, None, Some, refl, ap, sym, ◌∙◌}
 use Rattle.std.specs.Prelude.{◌&&◌, if◌then◌else◌, is_some, nat_eq, not}
 use Rattle.std.specs.Map.{lookup}
 use Rattle.std.specs.Option.{option_map}
@@ -23,6 +23,8 @@ use Rattle.spec_tcp.specs.Steps.{line_step}
 use Rattle.spec_tcp.specs.declared.endpoint.Emission.{Emission}
 use Rattle.spec_tcp.specs.declared.endpoint.SocketTarget.{SocketTarget}
 use Rattle.spec_tcp.specs.declared.endpoint.SocketTarget.TheVariants.{EndpointAt, ListenerAt}
+use Rattle.spec_step.specs.Acts.{step_hidden}
+use Rattle.spec_step.specs.declared.hidden.Hidden.{Hidden}
 use Rattle.spec_duties.specs.Observations.{at_sender, is_done, observe, observe_accept, observe_call, observe_close, observe_effect, observe_host_step}
 use Rattle.spec_duties.specs.Observations.{observe_opened, observe_other, observe_taking, syn_sent, unseen, view_in}
 use Rattle.spec_duties.specs.Arrivals.{stamps_read}
@@ -216,3 +218,18 @@ line_shown h moment k line = shown_plainly h moment k (line_step line) (by line)
     by (taken.Came line host copied wire) = tt
     by (taken.Heard line host wire) = tt
     by (taken.Expired line host ports expired) = tt
+
+pub line_sees : (h : Header) (moment : ℕ) (k : Known) (line like : TakenLine) (s : Observation) → s ≡ observe h moment k.model (line_step like)
+    → line ≡ like → s ≡ shown h moment k (line_step line)
+line_sees h moment k line like s sees is =
+    sees ∙ ap (λ (l : TakenLine). observe h moment k.model (line_step l)) (sym is) ∙ sym (line_shown h moment k line)
+
+pub hidden_sees : (h : Header) (moment : ℕ) (k : Known) (step like : Hidden) (s : Observation) → s ≡ observe h moment k.model (step_hidden like)
+    → step ≡ like → IsNoDrop (step_hidden like) → s ≡ shown h moment k (step_hidden step)
+hidden_sees h moment k step like s sees is keeps =
+    sees ∙ sym (shown_plainly h moment k (step_hidden like) keeps) ∙ ap (λ (x : Hidden). shown h moment k (step_hidden x)) (sym is)
+
+pub same_sees : (h : Header) (moment : ℕ) (k : Known) (step like : Hidden) (s : Observation) → s ≡ observe h moment k.model (step_hidden step)
+    → step ≡ like → IsNoDrop (step_hidden like) → s ≡ shown h moment k (step_hidden step)
+same_sees h moment k step like s sees is keeps =
+    hidden_sees h moment k step like s (sees ∙ ap (λ (x : Hidden). observe h moment k.model (step_hidden x)) is) is keeps
