@@ -42,17 +42,22 @@ impl Replay<'_> {
     /// Whether a step drops a segment that may be dropped because its timestamp is too old, or because it has none. In
     /// versions 1 to 5 none may.
     pub fn is_excused(&self, step: &Step) -> bool {
-        let Act::Hidden(hidden) = act_of(&step.label) else {
-            return false;
-        };
-        let world = self.world();
-        if !world.header().version.says_sender() || !has_room(world) || !is_small(&hidden) {
-            return false;
+        match act_of(&step.label) {
+            Act::Line(_) => false,
+            Act::Hidden(hidden) => is_excused_at(self, step.moment, &hidden),
         }
-        let seen = observe_hidden(world, step.moment, &hidden);
-        let shown = self.watched.flights().excused(world.header(), &seen);
-        is_droppable(&shown) && !is_droppable(&seen)
     }
+}
+
+// The same of a step that uses no line.
+fn is_excused_at(replay: &Replay<'_>, moment: u64, step: &Hidden<'_>) -> bool {
+    let world = replay.world();
+    if !world.header().version.says_sender() || !has_room(world) || !is_small(step) {
+        return false;
+    }
+    let seen = observe_hidden(world, moment, step);
+    let shown = replay.flights().excused(world.header(), &seen);
+    is_droppable(&shown) && !is_droppable(&seen)
 }
 
 // Whether a step drops a segment that may be dropped.
