@@ -114,7 +114,9 @@ impl Review<'_> {
             }
             Label::M { host, plan } => self.make(world, *host, plan)?,
             Label::K { host, line } => {
-                if let Some(arrival) = self.arrive(world, *host, *line)? {
+                if let Some(arrival) = self.arrive(world, *host, *line)?
+                    && !replay.is_excused(step)
+                {
                     self.drop_arrival(world, &arrival)?;
                 }
             }

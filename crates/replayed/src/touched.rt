@@ -1,10 +1,10 @@
-//! The endpoint that a step touches, whose duties it compares, and what that endpoint knows of losses.
+//! The endpoint that a step touches, whose duties it compares, and what that endpoint knows of losses and timestamps.
 
 use crate::replay::{Replay, has_room, is_small};
 use case_forms::{Step, TakenLine};
 use endpoint_state::World;
 use flights::Standing;
-use spec_duties::TouchedEndpoint;
+use spec_duties::{Droppable, Observation, TouchedEndpoint};
 use spec_step::{Act, Hidden, act_of};
 use spec_tcp::EndpointId;
 use watched::{observe_hidden, observe_line};
@@ -35,6 +35,36 @@ impl Replay<'_> {
                     .standing(header, step.moment, &touched)
             }
         }
+    }
+}
+
+impl Replay<'_> {
+    /// Whether a step drops a segment that may be dropped because its timestamp is too old, or because it has none. In
+    /// versions 1 to 5 none may.
+    pub fn is_excused(&self, step: &Step) -> bool {
+        match act_of(&step.label) {
+            Act::Line(_) => false,
+            Act::Hidden(hidden) => is_excused_at(self, step.moment, &hidden),
+        }
+    }
+}
+
+// The same of a step that uses no line.
+fn is_excused_at(replay: &Replay<'_>, moment: u64, step: &Hidden<'_>) -> bool {
+    let world = replay.world();
+    if !world.header().version.says_sender() || !has_room(world) || !is_small(step) {
+        return false;
+    }
+    let seen = observe_hidden(world, moment, step);
+    let shown = replay.flights().excused(world.header(), &seen);
+    is_droppable(&shown) && !is_droppable(&seen)
+}
+
+// Whether a step drops a segment that may be dropped.
+fn is_droppable(seen: &Observation) -> bool {
+    match seen.dropping {
+        Some(dropping) => matches!(dropping.droppable, Droppable::Yes),
+        None => false,
     }
 }
 
