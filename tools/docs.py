@@ -31,7 +31,7 @@ SECTION = re.compile(r'(?:(?:\]\(([^)\s]+\.md)\)|`([\w./]+\.md)`),? )?(?:\bsecti
 IDENTIFIER = re.compile(r"`(\w+(?:::\w+)*)(?:\(\))?`")
 # Names in pages that aren't in this repository: code of lwIP and gVisor.
 FOREIGN = frozenset("tcp_in.c tcp_out.c tcp.c opt.h tcp_process tcp_receive tcp_abandon rcv.go endpoint.go "
-                    "header/tcp.go protocol.go connect.go segment_queue.go snd.go handleRcvdSegment "
+                    "header/tcp.go protocol.go connect.go segment_queue.go snd.go reno.go handleRcvdSegment "
                     "maybeSendSegment".split())
 # Where names of code are looked up: everything except pages.
 CODE = re.compile(r"\.(rt|antt|txt|py|c|h|go|rs|scenario|edit|sbatch)$|/[\w-]+$")
