@@ -1,7 +1,7 @@
 -- What an endpoint holds beyond what is next in order was kept by its `T` steps; and it takes selective acknowledgments
 -- only once it took a SYN that permits them.
 use Rattle.std.proofs.Common.{◌≡◌, ℕ, zero, suc, ◌<◌, ◌≤◌, Bool, true, false, List, [], ◌∷◌, Option, Some, None, refl, ap, sym, subst, ◌∙◌, nat_eq, arith}
-use Rattle.std.specs.Prelude.{◌&&◌, ◌||◌, if◌then◌else◌, nat_le, nat_lt, not, slice_get, take, unwrap_or}
+use Rattle.std.specs.Prelude.{◌&&◌, ◌||◌, if◌then◌else◌, nat_le, nat_lt, not, slice_get}
 use Rattle.std.specs.Cmp.{nat_cmp_total}
 use Rattle.std.specs.FinSet.{FinSet, contains, contains-difference, contains-empty, contains-union, difference, from_list, items, union}
 use Rattle.std.specs.Map.{lookup}
@@ -45,12 +45,11 @@ use Rattle.spec_duties.specs.declared.observations.SynChange.{SynChange}
 use Rattle.spec_duties.specs.declared.observations.SynChange.TheVariants as syn_change
 use Rattle.spec_duties.specs.declared.observations.TouchedEndpoint.{TouchedEndpoint}
 use Rattle.spec_duties.specs.declared.views.View.{View}
-use Rattle.spec_flights.specs.Flights.{Flight, flight_after, flight_at, unflown}
+use Rattle.spec_flights.specs.Flights.{Flight, flight_at, unflown}
 use Rattle.spec_flights.specs.Held.{held_after}
 use Rattle.spec_flights.specs.Sides.{sides_after}
 use Rattle.kept_flights.specs.Places.{Happens, observed, seen_before, world_before}
 use Rattle.kept_flights.specs.Holding.{PeerPermits, WasKept}
-use Rattle.kept_flights.specs.Reported.{HasSyn}
 use Rattle.kept_flights.proofs.Runs.{flight_before, known_before, place_after, touched}
 use Rattle.flights.proofs.SetLemmas.{read_back}
 

@@ -8,4 +8,9 @@ pub mod Numbers
 pub mod Knowing
 pub mod Keeping
 pub mod Reporting
+pub mod Tables
+pub mod Tracing
+pub mod Agreeing
+pub mod Peering
 pub mod Facts
+pub mod BlockFacts
