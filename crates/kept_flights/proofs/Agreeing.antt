@@ -58,6 +58,7 @@ agree near other ack top left right far_left far_right p lefts rights low high f
     left_first : (p < far_left) ⊎ (far_left ≤ p) → far_left ≤ p
     left_first (inr is) = is
     left_first (inl less) =
-        let same : right ≡ far_right = one_place right far_right rights (omega (arith, far_low, acked, near_top, within)) (omega (arith, far_high, beyond, upto)) in
+        let same : right ≡ far_right =
+        one_place right far_right rights (omega (arith, far_low, acked, near_top, within)) (omega (arith, far_high, beyond, upto)) in
         let one : left ≡ far_left = one_place left far_left lefts (omega (arith, less, from)) (omega (arith, some, same, high, low)) in
         omega (arith, one, less, from)

@@ -68,8 +68,9 @@ nothing_kept place less =
 -- so the law refuses it
 pub untrue_is_refused : Dutiful six (first_known six) boasting → ⊥
 untrue_is_refused may =
-    let told = may_report six boasting refl it_is_a_run may 8 0 boaster untrue (record { left = record { 0 = 5002 }; right = record { 0 = 5003 } }) (omega arith)
-    refl block_is_sent in
+    let told =
+    may_report six boasting refl it_is_a_run may 8 0 boaster untrue (record { left = record { 0 = 5002 }; right = record { 0 = 5003 } })
+    (omega arith) refl block_is_sent in
     let t = told.is_true in
     let irs : told.irs ≡ record { 0 = 5000 } = sym (same_Some (record { 0 = 5000 }) told.irs told.known) in
     let left : 2 ≡ t.left =

@@ -224,7 +224,9 @@ module _ (h : Header) (whole : is_half h.version ≡ false) where
       let from : is_from_peer me e m ≡ true = whole_peer (is_half h.version) (is_from_peer me e m) whole rules.0 in
       let parts =
       both_true (option_map_or (λ peer. same_endpoint peer m.sender) e.stream.peer false)
-      (option_map_or (λ q. same_endpoint q me) m.peer_at_send true) (not_reply m.is_reset_reply (same_endpoint m.sender me) (option_map_or (λ peer. same_endpoint peer m.sender) e.stream.peer false
+      (option_map_or (λ q. same_endpoint q me) m.peer_at_send true)
+      (not_reply m.is_reset_reply (same_endpoint m.sender me)
+      (option_map_or (λ peer. same_endpoint peer m.sender) e.stream.peer false
       && option_map_or (λ q. same_endpoint q me) m.peer_at_send true) plain from) in
       record {
         peer = some_name e.stream.peer m.sender parts.0;
@@ -365,7 +367,8 @@ module _ (h : Header) (whole : is_half h.version ≡ false) (xs : List (Stamped 
         let number = one_irs h xs s.sent q known.2.endpoint known.2.there known.0 told.irs known.2.known told.known in
         let less = s.earlier in
         let same =
-        begun known.0 told.irs (number_of r.iss 0) number (begins known.0 known.1 (knows_on h xs lawful q known.0 known.1 s.sent place (omega (arith, less)) known.2)) in
+        begun known.0 told.irs (number_of r.iss 0) number
+        (begins known.0 known.1 (knows_on h xs lawful q known.0 known.1 s.sent place (omega (arith, less)) known.2)) in
         let here_left = is_at (max r.endpoint.stream.snd_una m.ack) r.iss block.block.left block.left block.begins in
         let here_right = is_at (max r.endpoint.stream.snd_una m.ack) r.iss block.block.right block.right block.ends in
         let there_left = is_at other told.irs block.block.left t.left t.begins in

@@ -1,5 +1,6 @@
 -- The blocks that are sent are true.
-use Rattle.std.proofs.Common.{◌≡◌, ℕ, zero, suc, ◌<◌, ◌≤◌, ◌⊎◌, inl, inr, max, Bool, true, false, List, [], ◌∷◌, Option, None, Some, refl, ap, sym, subst, ◌∙◌, nat_eq, arith}
+use Rattle.std.proofs.Common.{◌≡◌, ℕ, zero, suc, ◌<◌, ◌≤◌, ◌⊎◌, inl, inr, max, Bool, true, false, List, [], ◌∷◌}
+use Rattle.std.proofs.Common.{Option, None, Some, refl, ap, sym, subst, ◌∙◌, nat_eq, arith}
 use Rattle.std.specs.Prelude.{◌&&◌, ◌||◌, if◌then◌else◌, is_some, nat_lt, not, slice_get}
 use Rattle.std.specs.FinSet.{FinSet, contains, from_list}
 use Rattle.std.specs.Map.{lookup}
@@ -36,7 +37,8 @@ use Rattle.spec_duties.specs.Owed.{late_rules}
 use Rattle.spec_duties.specs.Sampling.{is_sample_due}
 use Rattle.spec_duties.specs.Strict.{brought_by}
 use Rattle.spec_duties.specs.Views.{unborn, view_of}
-use Rattle.spec_duties.specs.Watching.{Duties, answer_rules, built_by, counts_now, drops_needed, duty_rules, judged_lates, leaves_late, limit_rules, owed_by, sends_in_excess, sent_by, sent_late, strict_by, touched_rules}
+use Rattle.spec_duties.specs.Watching.{Duties, answer_rules, built_by, counts_now, drops_needed, duty_rules, judged_lates, leaves_late}
+use Rattle.spec_duties.specs.Watching.{limit_rules, owed_by, sends_in_excess, sent_by, sent_late, strict_by, touched_rules}
 use Rattle.spec_duties.specs.declared.events.Event.{Event}
 use Rattle.spec_duties.specs.declared.observations.BuiltChange.TheVariants as built_change
 use Rattle.spec_duties.specs.declared.observations.Observation.{Observation}

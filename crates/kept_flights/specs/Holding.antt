@@ -18,9 +18,10 @@ use Rattle.spec_duties.specs.declared.views.View.{View}
 use Rattle.kept_flights.specs.Places.{Happens, IsStep, observed, seen_before, world_before}
 use Rattle.kept_flights.specs.Reported.{HasSyn}
 
--- by the `O` line at this place, the endpoint sends a segment with these bytes; no endpoint sends a reset that answers a
--- segment
-pub record IsSent (h : Header) (xs : List (Stamped tcp_shape)) (place : ℕ) (me : EndpointId) (wire : Wire) : Type 0 where
+-- by the `O` line at this place, the endpoint sends a segment with these bytes; a reset in answer to a segment has no
+-- endpoint
+pub record IsSent (h : Header) (xs : List (Stamped tcp_shape)) (place : ℕ) (me : EndpointId) (wire : Wire)
+    : Type 0 where
   pub line : ℕ
   pub number : ℕ
   pub step : IsStep xs place me.host (Sends line number wire)
@@ -67,8 +68,8 @@ pub record IsTrueBlock (h : Header) (xs : List (Stamped tcp_shape)) (place : ℕ
 abbrev pub irs_before : Header → List (Stamped tcp_shape) → (place : ℕ) → EndpointId → Option Word
 irs_before h xs place me = option_and_then (λ e. e.irs) (find (world_before h xs place).hosts me)
 
--- the endpoint may send this block: the SYN that it took permits blocks, the endpoint knows with which number its peer's
--- stream begins, and by this number the block is true
+-- the endpoint may send this block: the SYN that it took permits blocks, the endpoint knows the number with which its
+-- peer's stream begins, and by this number the block is true
 pub record MayReport (h : Header) (xs : List (Stamped tcp_shape)) (place : ℕ) (me : EndpointId) (block : SackBlock)
     : Type 0 where
   pub permits : PeerPermits h xs place me

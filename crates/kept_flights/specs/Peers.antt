@@ -15,8 +15,8 @@ use Rattle.kept_flights.specs.Reported.{IsReported}
 abbrev pub peer_before : Header → List (Stamped tcp_shape) → (place : ℕ) → EndpointId → Option EndpointId
 peer_before h xs place me = option_and_then (λ e. e.stream.peer) (find (world_before h xs place).hosts me)
 
--- the segment acknowledges less than 2^31 positions below the end of all that the endpoint sent. In one that acknowledges
--- less, a number of a position below the peer's RCV.NXT may read as a position 2^32 above it (RFC 9293, 3.4)
+-- the segment acknowledges less than 2^31 positions below the end of all that the endpoint sent. In an older one, the
+-- number of a position below the peer's RCV.NXT may read as the position 2^32 above it (RFC 9293, 3.4)
 abbrev pub IsYoung : (snd_max : ℕ) → Arrival → Type 0
 IsYoung snd_max arrival = snd_max < arrival.ack + 2 ^ 31
 
