@@ -14,7 +14,7 @@ use Rattle.spec_tcp_laws.specs.Consequences.{find}
 use Rattle.spec_duties.specs.declared.observations.SynChange.TheVariants as syn_change
 use Rattle.kept_flights.specs.Places.{world_before}
 use Rattle.kept_flights.specs.Reported.{HasSyn}
-use Rattle.kept_flights.proofs.Numbers.{Numbered, both_step, meets, stays}
+use Rattle.kept_flights.proofs.FirstNumbers.{Numbered, both_step, meets, stays}
 use Rattle.kept_flights.proofs.Positions.{Answered, becomes, permitted_at, world_next}
 use Rattle.kept_flights.proofs.Runs.{onward}
 use Rattle.kept_flights.proofs.Syns.{shown_at}

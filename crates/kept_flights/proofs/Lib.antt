@@ -4,7 +4,7 @@ pub mod Positions
 pub mod Syns
 pub mod Taking
 pub mod Stays
-pub mod Numbers
+pub mod FirstNumbers
 pub mod Knowing
 pub mod Keeping
 pub mod Reporting

@@ -46,7 +46,7 @@ use Rattle.spec_duties.specs.Views.{unborn, view_of}
 use Rattle.spec_duties.specs.declared.observations.BuiltChange.TheVariants as built_change
 use Rattle.kept_flights.specs.Holding.{IsSent}
 use Rattle.kept_flights.specs.Places.{observed, seen_before, world_before}
-use Rattle.kept_flights.proofs.Numbers.{Begins, BothFollow, Meets, Numbered, both_not, both_step, created, meets, opened, stays}
+use Rattle.kept_flights.proofs.FirstNumbers.{Begins, BothFollow, Meets, Numbered, both_not, both_step, created, meets, opened, stays}
 use Rattle.kept_flights.proofs.Positions.{lawful_take, permitted_at, world_next}
 use Rattle.kept_flights.proofs.Tables.{Adds, Filled, filled_step}
 
