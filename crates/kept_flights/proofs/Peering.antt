@@ -26,7 +26,7 @@ use Rattle.spec_tcp.specs.Arrives.OtherStates.{connected_rules}
 use Rattle.spec_tcp.specs.Arrives.OtherStates.Ack.{snd_una_after_segment}
 use Rattle.spec_tcp.specs.Arrives.OtherStates.Peer.{is_from_peer}
 use Rattle.spec_tcp.specs.Arrives.SynSent.{syn_sent_rules}
-use Rattle.spec_tcp.specs.Endpoints.{snd_max}
+use Rattle.spec_tcp.specs.Endpoints.{rcv_nxt, snd_max}
 use Rattle.spec_tcp.specs.Heard.{as_read, read_at}
 use Rattle.spec_tcp.specs.HostTcp.{HostTcp}
 use Rattle.spec_tcp.specs.Machine.{tcp, tcp_shape}
@@ -41,7 +41,7 @@ use Rattle.spec_tcp_laws.proofs.Takes.{taker_there}
 use Rattle.spec_duties.specs.Arrivals.{arrival_of}
 use Rattle.spec_duties.specs.Blocks.{block_between, block_of, block_read, blocks_of, no_blocks, reads_blocks}
 use Rattle.spec_duties.specs.Observations.{observe, observe_taking, processing_of, unseen}
-use Rattle.spec_duties.specs.Views.{view_of}
+use Rattle.spec_duties.specs.Views.{unborn, view_of}
 use Rattle.spec_duties.specs.declared.events.Event.{Event}
 use Rattle.spec_duties.specs.declared.observations.Arrival.{Arrival}
 use Rattle.spec_duties.specs.declared.observations.Blocks.{Blocks}
@@ -55,7 +55,7 @@ use Rattle.kept_flights.specs.Places.{Happens, observed, seen_before, world_befo
 use Rattle.kept_flights.specs.Reported.{is_within, reports}
 use Rattle.kept_flights.proofs.Agreeing.{agree, alike, is_at}
 use Rattle.kept_flights.proofs.Knowing.{Knows, knows_on, knows_then}
-use Rattle.kept_flights.proofs.Positions.{permitted_at, rcv_rises}
+use Rattle.kept_flights.proofs.Positions.{becomes, permitted_at}
 use Rattle.kept_flights.proofs.Reporting.{may_report}
 use Rattle.kept_flights.proofs.Runs.{touched}
 use Rattle.kept_flights.proofs.Tracing.{HasIss, WasSent, fine_at, traced}
@@ -286,9 +286,20 @@ one_irs h xs place me e there a b here known =
 
 module _ (h : Header) (whole : is_half h.version ≡ false) (xs : List (Stamped tcp_shape)) (six : says_sender h.version ≡ true)
     (lawful : Lawful (tcp h) (start (tcp h)) xs) (may : Dutiful h (first_known h) xs) where
+  -- the next position expected never falls
+  rcv_rises : (q : EndpointId) (from to : ℕ) → from ≤ to → (seen_before h xs from q).rcv_nxt ≤ (seen_before h xs to q).rcv_nxt
+  rcv_rises q from to le = by (find (world_before h xs from).hosts q) refl
+    where
+      by : (o : Option Endpoint) → find (world_before h xs from).hosts q ≡ o
+          → (option_map_or view_of o unborn).rcv_nxt ≤ (seen_before h xs to q).rcv_nxt
+      by None is = omega arith
+      by (Some e) is =
+          let b = becomes h xs lawful q from to le e is in
+          subst (λ (o : Option Endpoint). rcv_nxt e ≤ (option_map_or view_of o unborn).rcv_nxt) (sym b.there) b.next
+
   has_later : (from to : ℕ) → from ≤ to → (q : EndpointId) (p : ℕ) → Has h xs from q p → Has h xs to q p
   has_later from to le q p (inl below) =
-      let rises = rcv_rises h xs lawful q from to le in
+      let rises = rcv_rises q from to le in
       inl (omega (arith, below, rises))
   has_later from to le q p (inr k) = let less = k.earlier in inr (record {
     kept = k.kept;

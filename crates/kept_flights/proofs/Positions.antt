@@ -156,14 +156,3 @@ module _ (h : Header) (xs : List (Stamped tcp_shape)) (lawful : Lawful (tcp h) (
       by (Some e) is =
           let b = becomes from to le e is in
           subst (λ (o : Option Endpoint). e.stream.snd_una ≤ (option_map_or view_of o unborn).snd_una) (sym b.there) b.una
-
-  -- nor does the next position expected
-  pub rcv_rises : (from to : ℕ) → from ≤ to → (seen_before h xs from me).rcv_nxt ≤ (seen_before h xs to me).rcv_nxt
-  rcv_rises from to le = by (find (world_before h xs from).hosts me) refl
-    where
-      by : (o : Option Endpoint) → find (world_before h xs from).hosts me ≡ o
-          → (option_map_or view_of o unborn).rcv_nxt ≤ (seen_before h xs to me).rcv_nxt
-      by None is = omega arith
-      by (Some e) is =
-          let b = becomes from to le e is in
-          subst (λ (o : Option Endpoint). rcv_nxt e ≤ (option_map_or view_of o unborn).rcv_nxt) (sym b.there) b.next
