@@ -1,7 +1,7 @@
 -- What an endpoint holds beyond what is next in order was kept by its `T` steps; and it takes selective acknowledgments
 -- only once it took a SYN that permits them.
 use Rattle.std.proofs.Common.{◌≡◌, ℕ, zero, suc, ◌<◌, ◌≤◌, Bool, true, false, List, [], ◌∷◌, Option, Some, None, refl, ap, sym, subst, ◌∙◌, nat_eq, arith}
-use Rattle.std.specs.Prelude.{◌&&◌, ◌||◌, if◌then◌else◌, nat_le, nat_lt, not, slice_get, take, unwrap_or}
+use Rattle.std.specs.Prelude.{◌&&◌, ◌||◌, if◌then◌else◌, nat_le, nat_lt, not, slice_get}
 use Rattle.std.specs.Cmp.{nat_cmp_total}
 use Rattle.std.specs.FinSet.{FinSet, contains, contains-difference, contains-empty, contains-union, difference, from_list, items, union}
 use Rattle.std.specs.Map.{lookup}
@@ -45,12 +45,11 @@ use Rattle.spec_duties.specs.declared.observations.SynChange.{SynChange}
 use Rattle.spec_duties.specs.declared.observations.SynChange.TheVariants as syn_change
 use Rattle.spec_duties.specs.declared.observations.TouchedEndpoint.{TouchedEndpoint}
 use Rattle.spec_duties.specs.declared.views.View.{View}
-use Rattle.spec_flights.specs.Flights.{Flight, flight_after, flight_at, unflown}
+use Rattle.spec_flights.specs.Flights.{Flight, flight_at, unflown}
 use Rattle.spec_flights.specs.Held.{held_after}
 use Rattle.spec_flights.specs.Sides.{sides_after}
 use Rattle.kept_flights.specs.Places.{Happens, observed, seen_before, world_before}
 use Rattle.kept_flights.specs.Holding.{PeerPermits, WasKept}
-use Rattle.kept_flights.specs.Reported.{HasSyn}
 use Rattle.kept_flights.proofs.Runs.{flight_before, known_before, place_after, touched}
 use Rattle.flights.proofs.SetLemmas.{read_back}
 
@@ -144,9 +143,11 @@ keeps_there h moment w (At host (Takes line how)) me event before position here 
       (taking_host me event before h w host line how (waiting line (pick w.hosts host).inbox) here),
 )
 keeps_there h moment w (At host (Sends line number wire)) me event before position here keeps =
-    absurd (bare_keeps (observe h moment w (At host (Sends line number wire))) position (on_cases Bare (lookup (nat_eq number) (pick w.hosts host).made) unseen _ refl (λ m is. refl)) keeps)
+    absurd (bare_keeps (observe h moment w (At host (Sends line number wire))) position
+    (on_cases Bare (lookup (nat_eq number) (pick w.hosts host).made) unseen _ refl (λ m is. refl)) keeps)
 keeps_there h moment w (At host (Drops line)) me event before position here keeps =
-    absurd (bare_keeps (observe h moment w (At host (Drops line))) position (on_cases Bare (waiting line (pick w.hosts host).inbox) unseen _ refl (λ m is. refl)) keeps)
+    absurd (bare_keeps (observe h moment w (At host (Drops line))) position
+    (on_cases Bare (waiting line (pick w.hosts host).inbox) unseen _ refl (λ m is. refl)) keeps)
 keeps_there h moment w (Effect thread answer) me event before position here keeps =
     absurd (bare_keeps (observe h moment w (Effect thread answer)) position (effect_bare h w thread answer (turn_of thread w.threads)) keeps)
 keeps_there h moment w step me event before position here keeps = absurd (bare_keeps (observe h moment w step) position refl keeps)
@@ -154,7 +155,8 @@ keeps_there h moment w step me event before position here keeps = absurd (bare_k
 -- ---- what is held was kept
 
 -- of a position that is held after a step
-either : (held : FinSet nat_cmp) (k : Kept) (next p : ℕ) → contains {K = ℕ} {R = nat_cmp} (from_list (items (difference (union held (span k.from k.upto)) (span 0 next)))) p ≡ true
+either : (held : FinSet nat_cmp) (k : Kept) (next p : ℕ)
+    → contains {K = ℕ} {R = nat_cmp} (from_list (items (difference (union held (span k.from k.upto)) (span 0 next)))) p ≡ true
     → contains held p ≡ false → (k.from ≤ p) × (p < k.upto)
 either held k next p is out =
     let all : FinSet nat_cmp = union held (span k.from k.upto) in
@@ -232,7 +234,8 @@ module _ (h : Header) (xs : List (Stamped tcp_shape)) (six : says_sender h.versi
 
   held_then : (place : ℕ) → AllKept place (flight_before h xs place me) → (event : Event) (before : View) → Happens (observed h xs place) me event before
       → (position : ℕ) (c : Bool) → contains {K = ℕ} {R = nat_cmp} (from_list (flight_before h xs place me).held) position ≡ c
-      → contains {K = ℕ} {R = nat_cmp} (from_list (held_after (observed h xs place).kept (seen_before h xs (suc place) me).rcv_nxt (flight_before h xs place me).held)) position ≡ true
+      → contains {K = ℕ} {R = nat_cmp} (from_list (held_after (observed h xs place).kept (seen_before h xs (suc place) me).rcv_nxt
+      (flight_before h xs place me).held)) position ≡ true
       → WasKept h xs (suc place) me position
   held_then place so_far event before here position true old is = kept_later place position (so_far position old)
   held_then place so_far event before here position false old is =
@@ -246,7 +249,8 @@ module _ (h : Header) (xs : List (Stamped tcp_shape)) (six : says_sender h.versi
   held_was_kept (suc place) =
       place_after h xs six (λ f. AllKept (suc place) f) me place (λ none position is. kept_later place position (held_was_kept place position is))
       (λ moment clock event before here position is.
-      held_then place (held_was_kept place) event before here position (contains {K = ℕ} {R = nat_cmp} (from_list (flight_before h xs place me).held) position) refl is)
+      held_then place (held_was_kept place) event before here position
+      (contains {K = ℕ} {R = nat_cmp} (from_list (flight_before h xs place me).held) position) refl is)
 
   -- ---- the peer's SYN
 

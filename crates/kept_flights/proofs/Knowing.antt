@@ -2,9 +2,8 @@
 use Rattle.std.proofs.Common.{◌≡◌, ℕ, suc, ◌<◌, ◌≤◌, Bool, true, false, List, Option, Some, None, refl, ap, sym, subst, ◌∙◌, arith}
 use Rattle.std.specs.Prelude.{slice_get}
 use Rattle.std.specs.Option.{option_map_or}
-use Rattle.std.proofs.lemmas.Option.{none-some, same_Some}
+use Rattle.std.proofs.lemmas.Option.{same_Some}
 use Rattle.seqno.specs.declared.word.Word.{Word}
-use Rattle.case_forms.specs.States.{is_syn_sent}
 use Rattle.case_forms.specs.declared.trace.Header.{Header}
 use Rattle.spec_network.specs.Hosts.{Stamped, World}
 use Rattle.spec_network.specs.HostSteps.{Lawful, after, start}
@@ -15,8 +14,8 @@ use Rattle.spec_tcp_laws.specs.Consequences.{find}
 use Rattle.spec_duties.specs.declared.observations.SynChange.TheVariants as syn_change
 use Rattle.kept_flights.specs.Places.{world_before}
 use Rattle.kept_flights.specs.Reported.{HasSyn}
-use Rattle.kept_flights.proofs.Numbers.{Numbered, both_step, meets, stays}
-use Rattle.kept_flights.proofs.Positions.{Answered, Became, becomes, permitted_at, world_next}
+use Rattle.kept_flights.proofs.FirstNumbers.{Numbered, both_step, meets, stays}
+use Rattle.kept_flights.proofs.Positions.{Answered, becomes, permitted_at, world_next}
 use Rattle.kept_flights.proofs.Runs.{onward}
 use Rattle.kept_flights.proofs.Syns.{shown_at}
 

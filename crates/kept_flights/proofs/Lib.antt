@@ -4,8 +4,13 @@ pub mod Positions
 pub mod Syns
 pub mod Taking
 pub mod Stays
-pub mod Numbers
+pub mod FirstNumbers
 pub mod Knowing
 pub mod Keeping
 pub mod Reporting
+pub mod Tables
+pub mod Tracing
+pub mod Agreeing
+pub mod Peering
 pub mod Facts
+pub mod BlockFacts

@@ -10,7 +10,7 @@ use Rattle.case_forms.specs.declared.trace.Header.{Header}
 use Rattle.spec_network.specs.HostRules.{Permitted}
 use Rattle.spec_network.specs.Hosts.{Stamped, Step, World}
 use Rattle.spec_network.specs.HostSteps.{Lawful, after, after_all, start}
-use Rattle.spec_tcp.specs.Endpoints.{snd_max}
+use Rattle.spec_tcp.specs.Endpoints.{rcv_nxt, snd_max}
 use Rattle.spec_tcp.specs.Machine.{tcp, tcp_shape}
 use Rattle.spec_tcp.specs.declared.endpoint.Endpoint.{Endpoint}
 use Rattle.spec_tcp.specs.declared.endpoint.EndpointId.{EndpointId}
@@ -69,7 +69,7 @@ lead_answered w step me e t (ByTimer c is) was = ap is_syn_sent is
 -- ---- a run
 
 module _ (h : Header) where
-  lawful_take : (w : World tcp_shape) (xs : List (Stamped tcp_shape)) → Lawful (tcp h) w xs → (n : ℕ) → Lawful (tcp h) w (take n xs)
+  pub lawful_take : (w : World tcp_shape) (xs : List (Stamped tcp_shape)) → Lawful (tcp h) w xs → (n : ℕ) → Lawful (tcp h) w (take n xs)
   lawful_take w [] may zero = tt
   lawful_take w [] may (suc n) = tt
   lawful_take w (x ∷ xs) may zero = tt
@@ -97,6 +97,7 @@ pub record Became (h : Header) (xs : List (Stamped tcp_shape)) (e : Endpoint) (p
   pub there : find (world_before h xs place).hosts me ≡ Some now
   pub una : e.stream.snd_una ≤ now.stream.snd_una
   pub made : snd_max e ≤ snd_max now
+  pub next : rcv_nxt e ≤ rcv_nxt now
   pub answered : Answered e.state → Answered now.state
 
 module _ (h : Header) (xs : List (Stamped tcp_shape)) (lawful : Lawful (tcp h) (start (tcp h)) xs) (me : EndpointId) where
@@ -114,6 +115,7 @@ module _ (h : Header) (xs : List (Stamped tcp_shape)) (lawful : Lawful (tcp h) (
             there = ap (λ (v : World tcp_shape). find v.hosts me) same ∙ b.there;
             una = b.una;
             made = b.made;
+            next = b.next;
             answered = b.answered;
           }
       by (Some x) is =
@@ -125,20 +127,23 @@ module _ (h : Header) (xs : List (Stamped tcp_shape)) (lawful : Lawful (tcp h) (
           let one : leads.0 ≡ up.0 = same_Some leads.0 up.0 (sym leads.1 ∙ up.1) in
           let una = up.2.snd_una in
           let made = up.2.made in
+          let rcv = up.2.rcv_nxt in
           let una_before = b.una in
+          let rcv_before = b.next in
           let made_before = b.made in
           record {
             now = up.0;
             there = ap (λ (v : World tcp_shape). find v.hosts me) goes ∙ up.1;
             una = omega (arith, una, una_before);
             made = omega (arith, made, made_before);
+            next = omega (arith, rcv, rcv_before);
             answered = λ was. subst (λ (f : Endpoint). Answered f.state) one (lead_answered w x.step me b.now leads.0.state leads.2 (b.answered was));
           }
 
   pub becomes : (from to : ℕ) → from ≤ to → (e : Endpoint) → find (world_before h xs from).hosts me ≡ Some e → Became h xs e to me
   becomes from to le e there =
       onward (λ place. Became h xs e place me) from to le
-      (record { now = e; there = there; una = omega arith; made = omega arith; answered = λ was. was })
+      (record { now = e; there = there; una = omega arith; made = omega arith; next = omega arith; answered = λ was. was })
       (λ place low high b. next e place b)
 
   -- so the oldest unacknowledged position never falls

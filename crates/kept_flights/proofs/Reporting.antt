@@ -1,5 +1,6 @@
 -- The blocks that are sent are true.
-use Rattle.std.proofs.Common.{◌≡◌, ℕ, zero, suc, ◌<◌, ◌≤◌, ◌⊎◌, inl, inr, max, Bool, true, false, List, [], ◌∷◌, ◌++◌, Option, None, Some, refl, ap, sym, subst, ◌∙◌, nat_eq, arith}
+use Rattle.std.proofs.Common.{◌≡◌, ℕ, zero, suc, ◌<◌, ◌≤◌, ◌⊎◌, inl, inr, max, Bool, true, false, List, [], ◌∷◌}
+use Rattle.std.proofs.Common.{Option, None, Some, refl, ap, sym, subst, ◌∙◌, nat_eq, arith}
 use Rattle.std.specs.Prelude.{◌&&◌, ◌||◌, if◌then◌else◌, is_some, nat_lt, not, slice_get}
 use Rattle.std.specs.FinSet.{FinSet, contains, from_list}
 use Rattle.std.specs.Map.{lookup}
@@ -20,7 +21,7 @@ use Rattle.verdict.specs.declared.rule.Rule.TheVariants as rules
 use Rattle.verdict.proofs.RuleLemmas.{none_all, none_both}
 use Rattle.streams.specs.Ranges.{covers}
 use Rattle.streams.proofs.RangeLemmas.{covers_each}
-use Rattle.spec_network.specs.Hosts.{At, HostStep, Sends, Stamped, World}
+use Rattle.spec_network.specs.Hosts.{At, Sends, Stamped, World}
 use Rattle.spec_network.specs.HostSteps.{Lawful, start}
 use Rattle.spec_network.specs.Tables.{Made, on, pick}
 use Rattle.spec_tcp.specs.Endpoints.{rcv_nxt}
@@ -36,18 +37,19 @@ use Rattle.spec_duties.specs.Owed.{late_rules}
 use Rattle.spec_duties.specs.Sampling.{is_sample_due}
 use Rattle.spec_duties.specs.Strict.{brought_by}
 use Rattle.spec_duties.specs.Views.{unborn, view_of}
-use Rattle.spec_duties.specs.Watching.{Duties, answer_rules, built_by, counts_now, drops_needed, duty_rules, judged_lates, leaves_late, limit_rules, owed_by, sends_in_excess, sent_by, sent_late, strict_by, touched_rules}
+use Rattle.spec_duties.specs.Watching.{Duties, answer_rules, built_by, counts_now, drops_needed, duty_rules, judged_lates, leaves_late}
+use Rattle.spec_duties.specs.Watching.{limit_rules, owed_by, sends_in_excess, sent_by, sent_late, strict_by, touched_rules}
 use Rattle.spec_duties.specs.declared.events.Event.{Event}
 use Rattle.spec_duties.specs.declared.observations.BuiltChange.TheVariants as built_change
 use Rattle.spec_duties.specs.declared.observations.Observation.{Observation}
 use Rattle.spec_duties.specs.declared.observations.TouchedEndpoint.{TouchedEndpoint}
 use Rattle.spec_duties.specs.declared.owed.Owed.{Owed}
 use Rattle.spec_duties.specs.declared.views.View.{View}
-use Rattle.spec_flights.specs.Flights.{Flights, sends_untrue}
+use Rattle.spec_flights.specs.Flights.{sends_untrue}
 use Rattle.spec_flights.specs.Held.{are_untrue, is_true_block, is_untrue, is_untrue_at, reports_held}
 use Rattle.spec_cases.specs.Cases.{Dutiful, Known, first_known, judged_rules, shown as shown_by, untrue_at, untrue_from, untrue_sent}
-use Rattle.kept_flights.specs.Holding.{BlocksAreTrue, Has, IsSent, IsTrueBlock, MayReport, irs_before}
-use Rattle.kept_flights.specs.Places.{Happens, IsStep, observed, seen_before, world_before}
+use Rattle.kept_flights.specs.Holding.{BlocksAreTrue, Has, IsTrueBlock, irs_before}
+use Rattle.kept_flights.specs.Places.{Happens, observed, seen_before, world_before}
 use Rattle.kept_flights.proofs.Keeping.{held_was_kept, peer_permits}
 use Rattle.kept_flights.proofs.Knowing.{knows_then}
 use Rattle.kept_flights.proofs.Runs.{dutiful_there, flight_before, flight_in, known_before, model_is, touched}
@@ -259,6 +261,14 @@ not_untrue h k me line number wire six is s =
 
 -- ---- along a run
 
+same_irs : (w : World tcp_shape) (me : EndpointId) (a b : Endpoint) (irs : Word) → find w.hosts me ≡ Some a → find w.hosts me ≡ Some b
+    → a.irs ≡ Some irs → b.irs ≡ Some irs
+same_irs w me a b irs here there known = subst (λ (e : Endpoint). e.irs ≡ Some irs) (same_Some a b (sym here ∙ there)) known
+
+irs_there : (h : Header) (xs : List (Stamped tcp_shape)) (place : ℕ) (me : EndpointId) (e : Endpoint)
+    → find (world_before h xs place).hosts me ≡ Some e → (irs : Word) → e.irs ≡ Some irs → irs_before h xs place me ≡ Some irs
+irs_there h xs place me e there irs known = ap (λ (o : Option Endpoint). option_and_then (λ x. x.irs) o) there ∙ known
+
 module _ (h : Header) (xs : List (Stamped tcp_shape)) (six : says_sender h.version ≡ true)
     (lawful : Lawful (tcp h) (start (tcp h)) xs) where
   pub may_report : Dutiful h (first_known h) xs → BlocksAreTrue h xs
@@ -282,12 +292,11 @@ module _ (h : Header) (xs : List (Stamped tcp_shape)) (six : says_sender h.versi
       ap (λ (w : World tcp_shape). find w.hosts me) (sym (model_is h xs place)) ∙ who.there in
       let permits = peer_permits h xs six me place j.permits in
       let knows = knows_then h xs lawful me permits.taken place true permits.alone permits.earlier permits.takes in
-      let one : knows.2.endpoint ≡ who.endpoint = same_Some knows.2.endpoint who.endpoint (sym knows.2.there ∙ found) in
-      let known : who.endpoint.irs ≡ Some knows.0 = sym (ap (λ (e : Endpoint). e.irs) one) ∙ knows.2.known in
+      let known = same_irs (world_before h xs place) me knows.2.endpoint who.endpoint knows.0 knows.2.there found knows.2.known in
       record {
         permits = permits;
         irs = knows.0;
-        known = ap (λ (o : Option Endpoint). option_and_then (λ e. e.irs) o) found ∙ known;
+        known = irs_there h xs place me who.endpoint found knows.0 known;
         is_true = is_true place me block who.endpoint found knows.0 (j.each knows.0 known);
       }
     where

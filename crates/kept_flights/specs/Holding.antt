@@ -1,5 +1,5 @@
 -- The blocks of selective acknowledgments that are sent are true (RFC 2018, 2 to 4).
-use Rattle.std.specs.Prelude.{◌≡◌, ◌<◌, ◌≤◌, ◌⊎◌, ℕ, true, Bool, List, Option, None, Some, slice_get}
+use Rattle.std.specs.Prelude.{◌≡◌, ◌<◌, ◌≤◌, ◌⊎◌, ℕ, true, Bool, List, Option, Some, slice_get}
 use Rattle.std.specs.Option.{option_and_then}
 use Rattle.seqno.specs.Near.{near_position}
 use Rattle.seqno.specs.declared.word.Word.{Word}
@@ -20,7 +20,8 @@ use Rattle.kept_flights.specs.Reported.{HasSyn}
 
 -- by the `O` line at this place, the endpoint sends a segment with these bytes; a reset in answer to a segment has no
 -- endpoint
-pub record IsSent (h : Header) (xs : List (Stamped tcp_shape)) (place : ℕ) (me : EndpointId) (wire : Wire) : Type 0 where
+pub record IsSent (h : Header) (xs : List (Stamped tcp_shape)) (place : ℕ) (me : EndpointId) (wire : Wire)
+    : Type 0 where
   pub line : ℕ
   pub number : ℕ
   pub step : IsStep xs place me.host (Sends line number wire)
@@ -67,7 +68,8 @@ pub record IsTrueBlock (h : Header) (xs : List (Stamped tcp_shape)) (place : ℕ
 abbrev pub irs_before : Header → List (Stamped tcp_shape) → (place : ℕ) → EndpointId → Option Word
 irs_before h xs place me = option_and_then (λ e. e.irs) (find (world_before h xs place).hosts me)
 
--- the endpoint may send this block: the SYN that it took permits blocks, and gave the number by which the block is true
+-- the endpoint may send this block: the SYN that it took permits blocks, the endpoint knows the number with which its
+-- peer's stream begins, and by this number the block is true
 pub record MayReport (h : Header) (xs : List (Stamped tcp_shape)) (place : ℕ) (me : EndpointId) (block : SackBlock)
     : Type 0 where
   pub permits : PeerPermits h xs place me
@@ -75,7 +77,7 @@ pub record MayReport (h : Header) (xs : List (Stamped tcp_shape)) (place : ℕ) 
   pub known : irs_before h xs place me ≡ Some irs
   pub is_true : IsTrueBlock h xs place me irs block
 
--- whoever sends blocks may, and they are true; a list of options has room for no more than four
+-- an endpoint that sends blocks may send them, and they are true; a list of options has room for at most four
 abbrev pub BlocksAreTrue : Header → List (Stamped tcp_shape) → Type 0
 BlocksAreTrue h xs =
     (place number : ℕ) (me : EndpointId) (wire : Wire) (block : SackBlock) → number < 4

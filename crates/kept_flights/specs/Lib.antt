@@ -1,3 +1,4 @@
 pub mod Places
 pub mod Reported
 pub mod Holding
+pub mod Peers

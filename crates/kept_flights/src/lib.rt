@@ -14,10 +14,11 @@
 //! - `specs/Places`: the steps of a run by their places, and what they do at an endpoint
 //! - `specs/Reported`: what a block reported isn't sent again in fast recovery
 //! - `specs/Holding`: the blocks that are sent are true
+//! - `specs/Peers`: what a block reports was received by the peer
 #![tactic(auto)]
 
 mod blocks;
 mod laws;
 
-pub use blocks::blocks_are_true;
+pub use blocks::{blocks_are_true, reports_are_taken};
 pub use laws::what_was_reported_stays;

@@ -4,7 +4,7 @@ use Rattle.std.proofs.Common.{◌≡◌, ℕ, suc, ◌⊎◌, Bool, true, false,
 use Rattle.std.proofs.Common.{refl, ap, sym, subst, ◌∙◌, inl, inr}
 use Rattle.std.specs.Prelude.{if◌then◌else◌, ◌==◌, ◌&&◌, ◌||◌, not, slice_get}
 use Rattle.std.specs.Option.{option_map_or, option_or}
-use Rattle.std.proofs.lemmas.Option.{none-some, same_Some}
+use Rattle.std.proofs.lemmas.Option.{same_Some}
 use Rattle.seqno.specs.declared.word.Word.{Word}
 use Rattle.case_forms.specs.States.{is_syn_sent}
 use Rattle.case_forms.specs.Versions.{is_half}
@@ -30,7 +30,7 @@ use Rattle.spec_network.specs.HostRules.{aim_of, Permitted}
 use Rattle.spec_network.specs.Hosts.{HostState, Turn, Idle, Called, Answered, World, HostStep, Does, Expires, Makes, Sends}
 use Rattle.spec_network.specs.Hosts.{Gets, Hears, Takes, Drops, Answers, Step, Begin, Finish, Effect, At, turn_of}
 use Rattle.spec_network.specs.HostSteps.{host_step_after, call_after, effect_after, after}
-use Rattle.spec_network.specs.Tables.{pick, other, with_host, waiting, on}
+use Rattle.spec_network.specs.Tables.{pick, other, with_host, waiting}
 use Rattle.spec_tcp.specs.Arrives.{Taker, Nobody, AtListener, AtEndpoint, taker, taker_rules, endpoint_taken, after_taking}
 use Rattle.spec_tcp.specs.Arrives.Listen.{listener_rules, child}
 use Rattle.spec_tcp.specs.Arrives.OtherStates.{connected_rules, taken as segment_taken}
@@ -51,11 +51,10 @@ use Rattle.spec_tcp.specs.Signals.{profile_of}
 use Rattle.spec_tcp.specs.Timeouts.{after_expiry}
 use Rattle.spec_tcp.specs.declared.endpoint.Emission.{Emission}
 use Rattle.spec_tcp.specs.declared.endpoint.Endpoint.{Endpoint}
-use Rattle.spec_tcp.specs.declared.endpoint.EndpointId.{EndpointId}
 use Rattle.spec_tcp.specs.declared.endpoint.Socket.{Socket}
 use Rattle.spec_tcp.specs.declared.endpoint.SocketTarget.{SocketTarget}
 use Rattle.spec_tcp.specs.declared.endpoint.SocketTarget.TheVariants.{ListenerAt, EndpointAt}
-use Rattle.spec_tcp_laws.proofs.Later.{Hosts, name}
+use Rattle.spec_tcp_laws.proofs.Later.{Hosts}
 use Rattle.spec_tcp_laws.proofs.Moves.{with_cases, modify_each, map_onward, map_back}
 use Rattle.spec_tcp_laws.proofs.Rules.{on_passes, on_cases, map_or_cases}
 use Rattle.spec_tcp_laws.proofs.Takes.{taker_there}
@@ -320,7 +319,7 @@ module _ (w : World tcp_shape) (host : Host) where
 abbrev pub BothFollow : World tcp_shape → Hosts → Type 0
 BothFollow w b = (x : Host) → Follows w x (pick w.hosts x).body.endpoints (pick b x).body.endpoints
 
-both_not : (w : World tcp_shape) → BothFollow w w.hosts
+pub both_not : (w : World tcp_shape) → BothFollow w w.hosts
 both_not w x = follows_not w x (pick w.hosts x).body.endpoints
 
 both_host : (w : World tcp_shape) (host : Host) (k : HostState tcp_shape)
