@@ -33,13 +33,13 @@ use Rattle.kept_flights.specs.Reported.{BothPermit, IsBuilt, HasBegunRecovery, H
 use Rattle.kept_flights.proofs.Stays.{stays}
 
 -- the first rule that steps break, one by one
-abbrev broken : Header → World tcp_shape → List (Stamped tcp_shape) → Option Rule
+abbrev pub broken : Header → World tcp_shape → List (Stamped tcp_shape) → Option Rule
 broken h w [] = None
 broken h w (x ∷ xs) =
     option_map_or (λ rule. Some rule) (first_broken (step_rules (tcp h) x.moment w x.step)) (broken h (after (tcp h) x.moment w x.step) xs)
 
 -- if there is none, they are a run
-lawful : (h : Header) (w : World tcp_shape) (xs : List (Stamped tcp_shape)) → broken h w xs ≡ None → Lawful (tcp h) w xs
+pub lawful : (h : Header) (w : World tcp_shape) (xs : List (Stamped tcp_shape)) → broken h w xs ≡ None → Lawful (tcp h) w xs
 lawful h w [] e = tt
 lawful h w (x ∷ xs) e = go (first_broken (step_rules (tcp h) x.moment w x.step)) refl e (lawful h (after (tcp h) x.moment w x.step) xs)
   where
@@ -50,11 +50,11 @@ lawful h w (x ∷ xs) e = go (first_broken (step_rules (tcp h) x.moment w x.step
     go (Some rule) is e rest = absurd (none-some rule (sym e))
 
 -- host 0 alone is recorded
-abbrev six : Header
+abbrev pub six : Header
 six = record (header 60000000 0) { version = SixHalf; congestion = Recovery }
 
 -- a segment with these options, and its bytes
-abbrev segment : (src dst seq number flags : ℕ) → (options payload : List ℕ) → Wire
+abbrev pub segment : (src dst seq number flags : ℕ) → (options payload : List ℕ) → Wire
 segment src dst seq number flags options payload = record {
   bytes =
       big_bytes 2 src ++ big_bytes 2 dst ++ big_bytes 4 seq ++ big_bytes 4 number ++ (offset_byte options ∷ flags ∷ []) ++ big_bytes 2 65535
@@ -73,7 +73,7 @@ segment src dst seq number flags options payload = record {
   };
 }
 
-abbrev plan : (pos len : ℕ) → Flags → Option ℕ → SegmentPlan
+abbrev pub plan : (pos len : ℕ) → Flags → Option ℕ → SegmentPlan
 plan pos len flags iss = record {
   lport = 4000;
   rport = 80;
@@ -85,10 +85,10 @@ plan pos len flags iss = record {
   shift = None;
 }
 
-abbrev chooses : TakeChoice
+abbrev pub chooses : TakeChoice
 chooses = record { cwnd = 10000; keep = false; sample = false }
 
-abbrev does : (moment : ℕ) → HostStep tcp_shape → Stamped tcp_shape
+abbrev pub does : (moment : ℕ) → HostStep tcp_shape → Stamped tcp_shape
 does moment d = record { moment = moment; step = At Zero d }
 
 -- both SYNs permit SACK; of two bytes, the second is reported, and then it is built again

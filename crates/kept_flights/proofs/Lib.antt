@@ -3,5 +3,12 @@ pub mod Kept
 pub mod Positions
 pub mod Syns
 pub mod Taking
+pub mod Shows
+pub mod Numbers
+pub mod Marked
+pub mod Building
+pub mod Always
 pub mod Stays
+pub mod Repeats
 pub mod Facts
+pub mod RepeatFacts

@@ -75,7 +75,7 @@ module _ (h : Header) where
   lawful_take w (x ∷ xs) may zero = tt
   lawful_take w (x ∷ xs) may (suc n) = (may.0, lawful_take (after (tcp h) x.moment w x.step) xs may.1 n)
 
-  permitted_at : (w : World tcp_shape) (xs : List (Stamped tcp_shape)) → Lawful (tcp h) w xs → (place : ℕ) (x : Stamped tcp_shape)
+  pub permitted_at : (w : World tcp_shape) (xs : List (Stamped tcp_shape)) → Lawful (tcp h) w xs → (place : ℕ) (x : Stamped tcp_shape)
       → slice_get xs place ≡ Some x → Permitted (tcp h) x.moment (after_all (tcp h) w (take place xs)) x.step
   permitted_at w [] may place x is = absurd (none-some x is)
   permitted_at w (y ∷ xs) may zero x is = subst (λ (z : Stamped tcp_shape). Permitted (tcp h) z.moment w z.step) (same_Some y x is) may.0
@@ -151,3 +151,14 @@ module _ (h : Header) (xs : List (Stamped tcp_shape)) (lawful : Lawful (tcp h) (
       by (Some e) is =
           let b = becomes from to le e is in
           subst (λ (o : Option Endpoint). e.stream.snd_una ≤ (option_map_or view_of o unborn).snd_una) (sym b.there) b.una
+
+  -- nor does the position after all that was sent
+  pub made_rises : (from to : ℕ) → from ≤ to → (seen_before h xs from me).snd_max ≤ (seen_before h xs to me).snd_max
+  made_rises from to le = by (find (world_before h xs from).hosts me) refl
+    where
+      by : (o : Option Endpoint) → find (world_before h xs from).hosts me ≡ o
+          → (option_map_or view_of o unborn).snd_max ≤ (seen_before h xs to me).snd_max
+      by None is = omega arith
+      by (Some e) is =
+          let b = becomes from to le e is in
+          subst (λ (o : Option Endpoint). snd_max e ≤ (option_map_or view_of o unborn).snd_max) (sym b.there) b.made

@@ -1,2 +1,3 @@
 pub mod Places
 pub mod Reported
+pub mod Reasons

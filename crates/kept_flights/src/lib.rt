@@ -2,16 +2,17 @@
 //!
 //! A yes in version 6 means that the case's steps are such a run. The statement is about places in the list of steps
 //! and about what `observe` shows of them. What is kept of data in flight between the steps doesn't appear in it. This
-//! crate has no code, only a law.
+//! crate has no code, only laws.
 //!
-//! - `laws`: the law, the contract of a call that does nothing
+//! - `laws`: the laws, each the contract of a call that does nothing
 //!
 //! The definitions:
 //!
 //! - `specs/Places`: the steps of a run by their places, and what they do at an endpoint
 //! - `specs/Reported`: what a block reported isn't sent again in fast recovery
+//! - `specs/Reasons`: without selective acknowledgments, nothing is sent again without a new reason
 #![tactic(auto)]
 
 mod laws;
 
-pub use laws::what_was_reported_stays;
+pub use laws::{repeats_have_reasons, what_was_reported_stays};
