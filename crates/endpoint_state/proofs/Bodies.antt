@@ -290,7 +290,8 @@ act_bounded h me moment steps b (Expires x) small permitted k =
     ports_bounded steps b x.lport x.rport (λ e. after_expiry e x.expired moment)
     (after_expiry_bounded x.expired moment steps) k
 act_bounded h me moment steps b (Recovers x) small permitted k =
-    ports_bounded steps b x.lport x.rport (λ e. after_recovery e x.change x.cwnd x.ssthresh moment) (after_recovery_bounded x.change x.cwnd x.ssthresh moment steps) k
+    ports_bounded steps b x.lport x.rport (λ e. after_recovery e x.change x.cwnd x.ssthresh moment)
+    (after_recovery_bounded x.change x.cwnd x.ssthresh moment steps) k
 
 pub body_keeps : (h : Header) (me : Host) (moment steps : ℕ) (b : HostTcp) (act : Act) → IsSmallAct act
     → first_broken (act_rules h me moment b act) ≡ None → IsKeptBody steps b

@@ -262,7 +262,8 @@ after_expiry_bounded Pto moment steps e b =
       unmet = later.unmet;
     }
 
-pub after_recovery_bounded : (change : RecoveryChange) (cwnd ssthresh moment steps : ℕ) (e : Endpoint) → IsBounded steps e → IsBounded (suc steps) (after_recovery e change cwnd ssthresh moment)
+pub after_recovery_bounded : (change : RecoveryChange) (cwnd ssthresh moment steps : ℕ) (e : Endpoint) → IsBounded steps e
+    → IsBounded (suc steps) (after_recovery e change cwnd ssthresh moment)
 after_recovery_bounded Begins cwnd ssthresh moment steps e b =
     let later = bounded_later steps e b in
     record {

@@ -475,8 +475,8 @@ impl World {
         Ok(())
     }
 
-    /// Fast recovery begins (RFC 5681, 3.2), or is undone (RFC 4015, 3.2), at a moment in microseconds. The error is the
-    /// first broken rule; the world is then as it was.
+    /// Fast recovery begins (RFC 5681, 3.2), or is undone (RFC 4015, 3.2), at a moment in microseconds. The error is
+    /// the first broken rule; the world is then as it was.
     pub fn recover(&mut self, host: Host, recovery: Recovery, moment: u64) -> Result<(), Rule>
         requires { self.old.steps < most_steps }
         ensures rule { result_err result ≡ first_broken

@@ -149,7 +149,8 @@ module _ (t : Trace) (w : Witness) (slack : ℕ) (r : Run t.header slack (length
       let goes = goes_of t w slack r place (record { moment = moment; step = At host (model.Does recovery) }) acts in
       let v = (known_before t w place).model in
       let p = map_or_passes (endpoint_of (pick v.hosts host).body recovery.lport recovery.rport) rules.NoEndpoint _ goes.permitted in
-      makes_happen place moment (At host (model.Does recovery)) host (Recovers recovery.change) acts (ports_touched v host (Recovers recovery.change) recovery.lport recovery.rport p.0 p.1)
+      makes_happen place moment (At host (model.Does recovery)) host (Recovers recovery.change) acts
+      (ports_touched v host (Recovers recovery.change) recovery.lport recovery.rport p.0 p.1)
 
   expiring : (place moment : ℕ) (host : Host) (timer : Timer) → ExpiresAt t w place moment host timer → HappensThere t w place moment host (Expires timer)
   expiring place moment host timer a =

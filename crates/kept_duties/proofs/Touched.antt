@@ -250,7 +250,8 @@ pub as_before : (h : Header) (moment : ℕ) (w : World tcp_shape) (step : Step t
 as_before h moment w (Begin line thread call) = tt
 as_before h moment w (Finish line thread answer) = tt
 as_before h moment w (Effect thread answer) = effect_before h w thread answer (turn_of thread w.threads) refl
-as_before h moment w (At host (Does x)) = ports_before w (At host (Does x)) host (events.Recovers x.change) x.lport x.rport (x, refl, refl) (λ i is p e. absurd cc)
+as_before h moment w (At host (Does x)) =
+    ports_before w (At host (Does x)) host (events.Recovers x.change) x.lport x.rport (x, refl, refl) (λ i is p e. absurd cc)
 as_before h moment w (At host (Expires line x)) = ports_before w (At host (Expires line x)) host _ x.lport x.rport (line, x, refl, refl) (λ i is p e. absurd cc)
 as_before h moment w (At host (Makes m)) =
     ports_before w (At host (Makes m)) host (events.Builds m) m.lport m.rport refl

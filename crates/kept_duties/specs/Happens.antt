@@ -94,8 +94,8 @@ abbrev pub HappensThere : Trace → Witness → (place moment : ℕ) → Host �
 HappensThere t w place moment host event =
     (number : ℕ) × Happens t w place moment (record { host = host; number = number }) event
 
--- the other way round: each step that processes or builds a segment, lets a timer expire, begins fast recovery or undoes
--- one does this at an endpoint
+-- the other way round: each step that processes or builds a segment, lets a timer expire, or begins or undoes a
+-- recovery does this at an endpoint
 pub record StepsAreEvents (t : Trace) (w : Witness) : Type 0 where
   pub processes : (place moment line : ℕ) (host : Host) (choice : TakeChoice)
       → IsStep w place moment (labels.T host line choice)

@@ -149,11 +149,11 @@ pub struct Observation {
     pub blocks: Blocks,
     /// What is kept of that segment. Versions 1 to 5 don't ask.
     pub kept: Kept,
-    /// The timestamps of the segment that is sent, processed or dropped (RFC 7323, 3.2). `None`: it has none, or versions
-    /// 1 to 5 don't ask.
+    /// The timestamps of the segment that is sent, processed or dropped (RFC 7323, 3.2). `None`: it has none, or
+    /// versions 1 to 5 don't ask.
     pub stamps: Option<TimestampPair>,
-    /// The segment that is processed or dropped. `None`: it is a reset, or reaches no endpoint that knows the peer's SYN.
-    /// Versions 1 to 5 don't ask.
+    /// The segment that is processed or dropped. `None`: it is a reset, or reaches no endpoint that knows the peer's
+    /// SYN. Versions 1 to 5 don't ask.
     pub arrival: Option<Arrival>,
     /// What it does to the call of a thread, and to a socket. Versions 1 to 5 don't ask.
     pub call_change: CallChange,

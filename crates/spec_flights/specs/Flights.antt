@@ -39,15 +39,16 @@ use Rattle.spec_flights.specs.Late.{has_below, resent_below, settled}
 use Rattle.spec_flights.specs.Marks.{goes_again, marks_after, old_part, opens_probed}
 use Rattle.spec_flights.specs.Probing.{Probing, is_due, is_early_probe, is_none, not_probing, probing_after}
 use Rattle.spec_flights.specs.Recovering.{Recovery, is_recovering, is_repairing, none_begun, recovery_after}
-use Rattle.spec_flights.specs.Scoreboard.{Scoreboard, nothing_built, number_built, stretch_built, with_built, with_given_up}
-use Rattle.spec_flights.specs.Scoreboard.{with_nothing_given_up}
+use Rattle.spec_flights.specs.Scoreboard.{Scoreboard, nothing_built, number_built, stretch_built, with_built}
+use Rattle.spec_flights.specs.Scoreboard.{with_given_up, with_nothing_given_up}
 use Rattle.spec_flights.specs.Sides.{Sides, are_selective, neither, sides_after}
 use Rattle.spec_flights.specs.Stretches.{Stretch}
 use Rattle.spec_flights.specs.Undoing.{Undoing, needed, undoing_after}
 
 -- what is kept of an endpoint: what the two SYNs permit, from which loss it recovers, which positions are marked, in
 -- order, what is known of each outstanding one, whether it made use of a rescue since the recovery began, how far a
--- probe for a loss is, whether the recovery was needed, and what is known of timestamps; and which positions of its peer's stream it holds beyond what is next, in order
+-- probe for a loss is, whether the recovery was needed, and what is known of timestamps; and which positions of its
+-- peer's stream it holds beyond what is next, in order
 pub record Flight : Type 0 where
   pub sides : Sides
   pub recovery : Recovery

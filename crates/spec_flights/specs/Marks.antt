@@ -44,8 +44,8 @@ marked_by (syn_change.Takes permits true) event after oldest = own_syn after
 marked_by syn_change.ComesAgain event after oldest = own_syn after
 marked_by change event after oldest = marked_by_event event after oldest
 
--- ---- sending takes the mark; a FIN without bytes needs none, and takes none (RFC 9293, 3.10.4). If the recovery wasn't
--- needed, nothing needs to go again
+-- ---- sending takes the mark; a FIN without bytes needs none, and takes none (RFC 9293, 3.10.4). If a recovery
+-- is undone, nothing needs to go again
 
 -- the positions of a segment that were sent before
 abbrev pub old_part : View → SegmentPlan → Stretch

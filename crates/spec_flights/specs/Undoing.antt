@@ -84,7 +84,11 @@ shows_spurious s before after sides point r b u =
 abbrev pub undoing_after : Observation → Event → (before after : View) → Sides → Recovery → Reports → Scoreboard
     → Undoing → Undoing
 undoing_after s (Expires Rto) before after sides c r b u =
-    record { again = None; timeout = Some (record { snd_una = before.snd_una; newest = b.newest }); is_spurious = false }
+    record {
+      again = None;
+      timeout = Some (record { snd_una = before.snd_una; newest = b.newest });
+      is_spurious = false;
+    }
 undoing_after s (Recovers change) before after sides c r b u = needed
 undoing_after s (Builds m) before after sides c r b u = record u {
   again =

@@ -67,7 +67,8 @@ act_after h me moment b (Makes m) = at_ports b m.lport m.rport (λ e. after_maki
 act_after h me moment b (Takes how m) = after_taking h b how m moment (taker b m)
 act_after h me moment b (Resets m) = b
 act_after h me moment b (Expires x) = at_ports b x.lport x.rport (λ e. after_expiry e x.expired moment)
-act_after h me moment b (Recovers x) = at_ports b x.lport x.rport (λ e. after_recovery e x.change x.cwnd x.ssthresh moment)
+act_after h me moment b (Recovers x) =
+    at_ports b x.lport x.rport (λ e. after_recovery e x.change x.cwnd x.ssthresh moment)
 
 -- the segment that the endpoint at a place builds at this moment
 abbrev pub made_at : Host → ℕ → HostTcp → SegmentPlan → ℕ → Option Emission

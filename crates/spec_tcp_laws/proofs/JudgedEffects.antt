@@ -99,7 +99,8 @@ expiry_kept p Msl2 moment e = refl
 expiry_kept p Giveup moment e = refl
 expiry_kept p Pto moment e = refl
 
-pub recovery_kept : (p : Profile) (change : RecoveryChange) (cwnd ssthresh moment : ℕ) → Keeps p (λ e. after_recovery e change cwnd ssthresh moment) (λ e. after_recovery e change cwnd ssthresh moment)
+pub recovery_kept : (p : Profile) (change : RecoveryChange) (cwnd ssthresh moment : ℕ)
+    → Keeps p (λ e. after_recovery e change cwnd ssthresh moment) (λ e. after_recovery e change cwnd ssthresh moment)
 recovery_kept p Begins cwnd ssthresh moment e =
     ap (λ (c : Control). record (after_recovery e Begins cwnd ssthresh moment) { control = c })
     (not_read e.control p (recovery_signal e ssthresh) (at_moment e moment) cwnd ssthresh)

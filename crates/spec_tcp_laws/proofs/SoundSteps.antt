@@ -332,7 +332,8 @@ keeps_host_step : (h : Header) (s : ℕ) (w : World tcp_shape) (host : Host) (d 
     → Keeps (pick w.hosts host).body
     (host_step_after (tcp h) host s (suc w.count) (pick w.hosts (other host)).wire (pick w.hosts host) d).body None
 keeps_host_step h s w host (Does x) g =
-    keeps_at_ports (pick w.hosts host).body x.lport x.rport (λ e. after_recovery e x.change x.cwnd x.ssthresh s) g (λ e. record { listener = refl; late = λ y. y })
+    keeps_at_ports (pick w.hosts host).body x.lport x.rport (λ e. after_recovery e x.change x.cwnd x.ssthresh s) g
+    (λ e. record { listener = refl; late = λ y. y })
 keeps_host_step h s w host (Expires line x) g =
     keeps_at_ports (pick w.hosts host).body x.lport x.rport (λ e. after_expiry e x.expired s) g
     (λ e. stays_expiry e x.expired s)
