@@ -7,6 +7,9 @@ pub mod Shows
 pub mod Numbers
 pub mod Marked
 pub mod Building
+pub mod Accepted
+pub mod Plain
+pub mod Begun
 pub mod Always
 pub mod Stays
 pub mod Repeats

@@ -51,7 +51,10 @@ use Rattle.kept_flights.proofs.Kept.{holds}
 use Rattle.kept_flights.proofs.Marked.{ByBeginning, ByLoneSyn, ByOldest, ByPart, BySecondSyn, ByTimeout, IsFirst, IsMarked, IsReason}
 use Rattle.kept_flights.proofs.Marked.{marked_from, marked_reason, oldest_first}
 use Rattle.kept_flights.proofs.Numbers.{GivesUpNothing, IsAbove, board_above, built_above, whole_from}
-use Rattle.kept_flights.proofs.Always.{IsBegun, NotUndone, accepted, again, begun, counted, leaves_some, marked_below, none_due, plain, whole}
+use Rattle.kept_flights.proofs.Accepted.{accepted, again}
+use Rattle.kept_flights.proofs.Always.{counted, marked_below, whole}
+use Rattle.kept_flights.proofs.Begun.{IsBegun, NotUndone, begun, leaves_some}
+use Rattle.kept_flights.proofs.Plain.{none_due, plain}
 use Rattle.kept_flights.proofs.Positions.{made_rises}
 use Rattle.kept_flights.proofs.Runs.{flight_before, place_makes, run_tells, touched}
 use Rattle.kept_flights.proofs.Shows.{built_at}

@@ -48,6 +48,14 @@ seen w me = option_map_or view_of (find w.hosts me) unborn
 abbrev pub touched : EndpointId → Event → View → TouchedEndpoint
 touched me event before = record { host = me.host; place = me.number; event = event; before = before }
 
+-- what happens at an endpoint is one thing
+pub one_event : (s : Observation) (me : EndpointId) (event other : Event) (before other_before : View) → Happens s me event before
+    → Happens s me other other_before → (event ≡ other) × (before ≡ other_before)
+one_event s me event other before other_before here there =
+    let one : touched me event before ≡ touched me other other_before =
+    same_Some (touched me event before) (touched me other other_before) (sym here ∙ there) in
+    (ap (λ (t : TouchedEndpoint). t.event) one, ap (λ (t : TouchedEndpoint). t.before) one)
+
 -- what is kept of an endpoint
 abbrev pub flight_in : Flights → EndpointId → Flight
 flight_in fs me = flight_at fs me.host me.number

@@ -34,12 +34,12 @@ use Rattle.spec_cases.specs.Cases.{Dutiful, first_known}
 use Rattle.flights.specs.Promises.{WhatIsToldStays}
 use Rattle.kept_flights.specs.Places.{Happens, IsStep, observed, seen_before, world_before}
 use Rattle.kept_flights.specs.Reported.{BothPermit, IsBuilt, HasBegunRecovery, HasSyn, IsReported, StaysOut, WhatWasReportedStays, reports}
+use Rattle.kept_flights.proofs.Accepted.{accepted, again}
 use Rattle.kept_flights.proofs.Kept.{Told, board_begins, board_keeps, fast_keeps, own_begins, own_keeps, peers_keeps}
-use Rattle.kept_flights.proofs.Always.{accepted, again, one_event}
 use Rattle.kept_flights.proofs.Positions.{becomes, una_rises}
 use Rattle.kept_flights.proofs.Syns.{taken_once}
 use Rattle.kept_flights.proofs.Taking.{Read, built_there, reads}
-use Rattle.kept_flights.proofs.Runs.{flight_before, place_makes, run_keeps}
+use Rattle.kept_flights.proofs.Runs.{flight_before, one_event, place_makes, run_keeps}
 
 module _ (h : Header) (xs : List (Stamped tcp_shape)) (me : EndpointId) (six : says_sender h.version ≡ true)
     (lawful : Lawful (tcp h) (start (tcp h)) xs) where
