@@ -101,21 +101,21 @@ module _ (p : ℕ) where
 
   -- ---- and there is a reason
 
-  pub data IsReason (change : SynChange) (event : Event) (oldest : Bool) : Type 0 where
-    ByLoneSyn : (permits : Bool) (first : p ≡ 0) (is : change ≡ syn_change.Takes permits true) → IsReason change event oldest
-    BySecondSyn : (first : p ≡ 0) (is : change ≡ syn_change.ComesAgain) → IsReason change event oldest
-    ByTimeout : (is : event ≡ Expires Rto) → IsReason change event oldest
-    ByOldest : (is : oldest ≡ true) → IsReason change event oldest
+  pub data IsReason (change : SynChange) (event : Event) (after : View) (oldest : Bool) : Type 0 where
+    ByLoneSyn : (permits : Bool) (first : p ≡ 0) (is : change ≡ syn_change.Takes permits true) → IsReason change event after oldest
+    BySecondSyn : (first : p ≡ 0) (is : change ≡ syn_change.ComesAgain) → IsReason change event after oldest
+    ByTimeout : (is : event ≡ Expires Rto) → IsReason change event after oldest
+    ByOldest : (is : oldest ≡ true) (first : holds p (oldest_segment after) ≡ true) → IsReason change event after oldest
 
   event_reason : (change : SynChange) (event : Event) (after : View) (oldest : Bool) → holds p (marked_by_event event after oldest) ≡ true
-      → IsReason change event oldest
+      → IsReason change event after oldest
   event_reason change event after oldest = by event
     where
-      first : (event : Event) (b : Bool) → holds p (if b then oldest_segment after else no_positions) ≡ true → IsReason change event b
-      first event true is = ByOldest refl
+      first : (event : Event) (b : Bool) → holds p (if b then oldest_segment after else no_positions) ≡ true → IsReason change event after b
+      first event true is = ByOldest refl is
       first event false is = absurd (none_holds is)
 
-      by : (event : Event) → holds p (marked_by_event event after oldest) ≡ true → IsReason change event oldest
+      by : (event : Event) → holds p (marked_by_event event after oldest) ≡ true → IsReason change event after oldest
       by (Expires Rto) is = ByTimeout refl
       by event is = first event oldest is
 
@@ -123,7 +123,7 @@ module _ (p : ℕ) where
   first_position after is = let low : p < 1 = grind (arith, nat_tests, is) in omega (arith, low)
 
   pub marked_reason : (change : SynChange) (event : Event) (after : View) (oldest : Bool) → holds p (marked_by change event after oldest) ≡ true
-      → IsReason change event oldest
+      → IsReason change event after oldest
   marked_reason (syn_change.Takes permits true) event after oldest is = ByLoneSyn permits (first_position after is) refl
   marked_reason syn_change.ComesAgain event after oldest is = BySecondSyn (first_position after is) refl
   marked_reason change event after oldest is = event_reason change event after oldest is

@@ -78,7 +78,7 @@ no_reason = record {
   no_timeout = λ place low high did. let bad = line_alone place _ did.0 low high did.1 in cc;
   no_persist_timeout = λ place low high did. let bad = line_alone place _ did.0 low high did.1 in cc;
   no_opening = λ place low high o. let bad = line_alone place _ o.before low high o.happens in cc;
-  no_recovery = λ place low high did. let bad = line_alone place _ did.0 low high did.1 in cc;
+  no_recovery = λ place low high b. let bad = line_alone place _ b.begins.0 low high b.begins.1 in cc;
   no_part = λ place low high part. let bad = line_alone place _ part.before low high part.happens in cc;
   no_lone_syn = λ zeroth place low high syn. omega (arith, zeroth);
   no_second_syn = λ zeroth place low high syn. omega (arith, zeroth);

@@ -32,7 +32,7 @@ use Rattle.spec_flights.specs.Delivered.{read_reports}
 use Rattle.spec_flights.specs.Flights.{Flight, are_free, board_after, flight_after, free_below, is_free, is_probe, is_rescue, marks_oldest}
 use Rattle.spec_flights.specs.Flights.{may_go_again, sends_nothing_new}
 use Rattle.spec_flights.specs.Late.{has_below, resent_below, settled}
-use Rattle.spec_flights.specs.Marks.{goes_again, marked_by, marks_after, old_part, taken_by}
+use Rattle.spec_flights.specs.Marks.{goes_again, marked_by, marks_after, old_part, oldest_segment, taken_by}
 use Rattle.spec_flights.specs.Probing.{is_due}
 use Rattle.spec_flights.specs.Recovering.{is_recovering, is_repairing, recovery_after}
 use Rattle.spec_flights.specs.Scoreboard.{number_built, with_built}
@@ -44,7 +44,7 @@ use Rattle.spec_flights.specs.declared.sides.Sides.{Sides}
 use Rattle.spec_flights.specs.declared.stretch.Stretch.{Stretch}
 use Rattle.spec_cases.specs.Cases.{Dutiful, first_known}
 use Rattle.kept_flights.specs.Places.{Happens, observed, seen_before}
-use Rattle.kept_flights.specs.Reasons.{Did, Never, NoReason, RepeatsHaveReasons}
+use Rattle.kept_flights.specs.Reasons.{Did, InFirst, Never, NoReason, RepeatsHaveReasons}
 use Rattle.kept_flights.specs.Reported.{Holds, IsBuilt}
 use Rattle.kept_flights.proofs.Building.{building}
 use Rattle.kept_flights.proofs.Kept.{holds}
@@ -140,9 +140,12 @@ module _ (h : Header) (xs : List (Stamped tcp_shape)) (me : EndpointId) (six : s
     there : (other : Event) → event ≡ other → Happens (observed h xs place) me other before
     there other is = subst (λ (e : Event). Happens (observed h xs place) me e before) is here
 
-    no_first : IsFirst event before after sides recovery → ⊥
-    no_first (ByBeginning is) = none.no_recovery place low high (before, there (Recovers Begins) is)
-    no_first (ByPart length rst is more repairs) =
+    in_first : holds p (oldest_segment after) ≡ true → InFirst after p
+    in_first is = (grind (arith, nat_tests, is), grind (arith, nat_tests, is))
+
+    no_first : holds p (oldest_segment after) ≡ true → IsFirst event before after sides recovery → ⊥
+    no_first first (ByBeginning is) = none.no_recovery place low high (record { begins = (before, there (Recovers Begins) is); first = in_first first })
+    no_first first (ByPart length rst is more repairs) =
         let some =
         leaves_some length rst after f.recovery
         (subst (λ (e : Event). is_repairing after (recovery_after e after f.recovery) ≡ true) is
@@ -159,6 +162,7 @@ module _ (h : Header) (xs : List (Stamped tcp_shape)) (me : EndpointId) (six : s
           recovery = b.recovery;
           no_undo = lasting b left;
           part = omega (arith, left, within);
+          first = in_first first;
         })
       where
         lasting : (b : IsBegun h xs me six place f.recovery.point) → after.snd_una < f.recovery.point
@@ -169,11 +173,11 @@ module _ (h : Header) (xs : List (Stamped tcp_shape)) (me : EndpointId) (six : s
             by (inl zeroth) later over under did = absurd (omega (arith, left, zeroth))
             by (inr kept) later over under did = kept later did.0 over under did.1
 
-    no_reason : (clock : ℕ) → IsReason p (observed h xs place).syn_change event (marks_oldest clock event before after sides recovery f) → ⊥
+    no_reason : (clock : ℕ) → IsReason p (observed h xs place).syn_change event after (marks_oldest clock event before after sides recovery f) → ⊥
     no_reason clock (ByLoneSyn permits zeroth is) = none.no_lone_syn zeroth place low high (permits, (event, before, here, is))
     no_reason clock (BySecondSyn zeroth is) = none.no_second_syn zeroth place low high (event, before, here, is)
     no_reason clock (ByTimeout is) = none.no_timeout place low high (before, there (Expires Rto) is)
-    no_reason clock (ByOldest is) = no_first (oldest_first clock event before after sides recovery f is)
+    no_reason clock (ByOldest is first) = no_first first (oldest_first clock event before after sides recovery f is)
 
     gives_up_nothing : GivesUpNothing event before after
     gives_up_nothing = record {
@@ -233,13 +237,13 @@ module _ (h : Header) (xs : List (Stamped tcp_shape)) (me : EndpointId) (six : s
         within : (from end top : ℕ) → from ≤ p → p < end → p < top → (nat_le from p && nat_lt p (min end top)) ≡ true
         within from end top low high below = grind (arith, nat_tests, low, high, below)
 
-    no_mark : (oldest : Bool) → oldest ≡ false → IsReason p (observed h xs place).syn_change (Builds m) oldest → ⊥
+    no_mark : (oldest : Bool) → oldest ≡ false → IsReason p (observed h xs place).syn_change (Builds m) next oldest → ⊥
     no_mark oldest none (ByLoneSyn permits zeroth is) =
         let bad : syn_change.Nothing ≡ syn_change.Takes permits true = sym (built_at h xs place me m b.before b.happens).no_syn ∙ is in absurd cc
     no_mark oldest none (BySecondSyn zeroth is) =
         let bad : syn_change.Nothing ≡ syn_change.ComesAgain = sym (built_at h xs place me m b.before b.happens).no_syn ∙ is in absurd cc
     no_mark oldest none (ByTimeout is) = absurd cc
-    no_mark oldest none (ByOldest is) = absurd cc
+    no_mark oldest none (ByOldest is first) = absurd cc
 
     now_unmarked : (r : Reports) (oldest : Bool) → oldest ≡ false
         → IsMarked p (marks_after (observed h xs place).syn_change (Builds m) b.before next r oldest g.marks) → ⊥

@@ -1,6 +1,6 @@
 -- Where not both SYNs permitted selective acknowledgments, what was built isn't built again without a new reason (RFC
 -- 6298, 5.4; RFC 5681, 3.2; RFC 6582, 3.2; RFC 9293, 3.8.6.1).
-use Rattle.std.specs.Prelude.{◌≡◌, ℕ, suc, ◌<◌, Bool, true, List}
+use Rattle.std.specs.Prelude.{◌≡◌, ℕ, suc, ◌+◌, ◌<◌, ◌≤◌, Bool, true, List}
 use Rattle.case_forms.specs.declared.steps.SegmentPlan.{SegmentPlan}
 use Rattle.case_forms.specs.declared.timer.RecoveryChange.TheVariants.{Begins, IsUndone}
 use Rattle.case_forms.specs.declared.timer.Timer.TheVariants.{Persist, Rto}
@@ -25,7 +25,7 @@ Never from to P = (place : ℕ) → from < place → place < to → P place → 
 abbrev pub Did : Header → List (Stamped tcp_shape) → EndpointId → Event → (place : ℕ) → Type 0
 Did h xs me event place = (before : View) × Happens (observed h xs place) me event before
 
--- it opens the window of the endpoint while the persist timer runs
+-- it opens the window of an endpoint whose persist timer runs (RFC 9293, 3.8.6.1)
 pub record OpensProbed (h : Header) (xs : List (Stamped tcp_shape)) (me : EndpointId) (place : ℕ) : Type 0 where
   pub length : ℕ
   pub rst : Bool
@@ -33,9 +33,20 @@ pub record OpensProbed (h : Header) (xs : List (Stamped tcp_shape)) (me : Endpoi
   pub happens : Happens (observed h xs place) me (Processes length rst) before
   pub opens : opens_probed before (seen_before h xs (suc place) me) ≡ true
 
--- it acknowledges more in fast recovery, which wasn't undone, but not all that was sent when it began (RFC 6582, 3.2,
+-- a position is in the first segment of what is outstanding: "the lost segment starting at SND.UNA" (RFC 5681, 3.2,
 -- step 3)
-pub record AcknowledgesPart (h : Header) (xs : List (Stamped tcp_shape)) (me : EndpointId) (place : ℕ) : Type 0 where
+abbrev pub InFirst : View → (position : ℕ) → Type 0
+InFirst v position = (v.snd_una ≤ position) × (position < v.snd_una + v.smss)
+
+-- fast recovery begins, and a position is in the first segment then
+pub record BeginsAt (h : Header) (xs : List (Stamped tcp_shape)) (me : EndpointId) (position place : ℕ) : Type 0 where
+  pub begins : Did h xs me (Recovers Begins) place
+  pub first : InFirst (seen_before h xs (suc place) me) position
+
+-- in fast recovery, which wasn't undone, the step acknowledges more, but not all that was sent when it began; and a
+-- position is in the first segment then (RFC 6582, 3.2, step 3)
+pub record AcknowledgesPart (h : Header) (xs : List (Stamped tcp_shape)) (me : EndpointId) (position place : ℕ)
+    : Type 0 where
   pub length : ℕ
   pub rst : Bool
   pub before : View
@@ -44,6 +55,7 @@ pub record AcknowledgesPart (h : Header) (xs : List (Stamped tcp_shape)) (me : E
   pub recovery : HasBegunRecovery h xs place me
   pub no_undo : Never recovery.begun place (Did h xs me (Recovers IsUndone))
   pub part : (seen_before h xs (suc place) me).snd_una < (seen_before h xs (suc recovery.begun) me).snd_max
+  pub first : InFirst (seen_before h xs (suc place) me) position
 
 -- the peer's SYN comes without acknowledging that of the endpoint, or comes again (RFC 9293, 3.10.7.3 and 3.10.7.4)
 abbrev pub HasLoneSyn : Header → List (Stamped tcp_shape) → EndpointId → (place : ℕ) → Type 0
@@ -59,8 +71,8 @@ pub record NoReason (h : Header) (xs : List (Stamped tcp_shape)) (from to : ℕ)
   pub no_timeout : Never from to (Did h xs me (Expires Rto))
   pub no_persist_timeout : Never from to (Did h xs me (Expires Persist))
   pub no_opening : Never from to (OpensProbed h xs me)
-  pub no_recovery : Never from to (Did h xs me (Recovers Begins))
-  pub no_part : Never from to (AcknowledgesPart h xs me)
+  pub no_recovery : Never from to (BeginsAt h xs me position)
+  pub no_part : Never from to (AcknowledgesPart h xs me position)
   pub no_lone_syn : position ≡ 0 → Never from to (HasLoneSyn h xs me)
   pub no_second_syn : position ≡ 0 → Never from to (HasSecondSyn h xs me)
 
