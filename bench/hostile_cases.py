@@ -1023,6 +1023,11 @@ class Sender:
         ports = self.connection.ports
         self.case.step(f"F 0 {ports[0]} {ports[1]} {MSS} {MSS}")
 
+    def undo(self):
+        """The last recovery is undone."""
+        ports = self.connection.ports
+        self.case.step(f"U 0 {ports[0]} {ports[1]} {MSS} {MSS}")
+
     def recover_by_duplicates(self):
         for _ in range(3):
             self.hear()
@@ -1276,6 +1281,36 @@ def selective_tail_probes_after_what_was_told(count):
         for positions in in_fours(range(first + 1, sender.end - 1, 2)):
             sender.tell(positions)
         sender.hear(sender.end - 1)
+    return sender.case
+
+
+@kind(25_000, 50_000, 100_000)
+def selective_timeouts_that_are_undone(count):
+    """Three bytes are sent at a time. After each timeout, an acknowledgment shows that two had arrived before."""
+    sender = Sender(3 * count)
+    for _ in range(count):
+        sender.build_singly(3)
+        sender.expire("rto")
+        sender.build_again(sender.una)
+        sender.hear(sender.una + 2)
+        sender.undo()
+        sender.hear(sender.end)
+    return sender.case
+
+
+@kind(50_000, 100_000, 200_000)
+def selective_timeouts_undone_over_holes(count):
+    """Every second byte is told before each timeout, and two more are acknowledged after it. There are as many timeouts
+    as bytes in each flight."""
+    size = max(8, math.isqrt(count))
+    sender = Sender(size * size)
+    for _ in range(size):
+        sender.tell_every_second(size)
+        sender.expire("rto")
+        sender.build_again(sender.una)
+        sender.hear(sender.una + 4)
+        sender.undo()
+        sender.hear(sender.end)
     return sender.case
 
 
