@@ -19,3 +19,4 @@ pub mod Expiries
 pub mod Probing
 pub mod Resets
 pub mod Children
+pub mod Made
