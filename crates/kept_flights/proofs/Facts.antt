@@ -33,7 +33,7 @@ use Rattle.kept_flights.specs.Reported.{BothPermit, IsBuilt, HasBegunRecovery, H
 use Rattle.kept_flights.proofs.Stays.{stays}
 
 -- the first rule that steps break, one by one
-abbrev broken : Header → World tcp_shape → List (Stamped tcp_shape) → Option Rule
+abbrev pub broken : Header → World tcp_shape → List (Stamped tcp_shape) → Option Rule
 broken h w [] = None
 broken h w (x ∷ xs) =
     option_map_or (λ rule. Some rule) (first_broken (step_rules (tcp h) x.moment w x.step)) (broken h (after (tcp h) x.moment w x.step) xs)

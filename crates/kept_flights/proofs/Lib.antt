@@ -3,6 +3,14 @@ pub mod Kept
 pub mod Positions
 pub mod Syns
 pub mod Taking
+pub mod Shows
+pub mod Numbers
+pub mod Marked
+pub mod Building
+pub mod Accepted
+pub mod Plain
+pub mod Begun
+pub mod Always
 pub mod Stays
 pub mod FirstNumbers
 pub mod Knowing
@@ -12,5 +20,7 @@ pub mod Tables
 pub mod Tracing
 pub mod Agreeing
 pub mod Peering
+pub mod Repeats
 pub mod Facts
 pub mod BlockFacts
+pub mod RepeatFacts

@@ -156,3 +156,14 @@ module _ (h : Header) (xs : List (Stamped tcp_shape)) (lawful : Lawful (tcp h) (
       by (Some e) is =
           let b = becomes from to le e is in
           subst (λ (o : Option Endpoint). e.stream.snd_una ≤ (option_map_or view_of o unborn).snd_una) (sym b.there) b.una
+
+  -- nor does the position after all that was sent
+  pub made_rises : (from to : ℕ) → from ≤ to → (seen_before h xs from me).snd_max ≤ (seen_before h xs to me).snd_max
+  made_rises from to le = by (find (world_before h xs from).hosts me) refl
+    where
+      by : (o : Option Endpoint) → find (world_before h xs from).hosts me ≡ o
+          → (option_map_or view_of o unborn).snd_max ≤ (seen_before h xs to me).snd_max
+      by None is = omega arith
+      by (Some e) is =
+          let b = becomes from to le e is in
+          subst (λ (o : Option Endpoint). snd_max e ≤ (option_map_or view_of o unborn).snd_max) (sym b.there) b.made

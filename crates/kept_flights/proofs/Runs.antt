@@ -25,6 +25,7 @@ use Rattle.spec_duties.specs.declared.events.Event.{Event}
 use Rattle.spec_duties.specs.declared.observations.Observation.{Observation}
 use Rattle.spec_duties.specs.declared.observations.TouchedEndpoint.{TouchedEndpoint}
 use Rattle.spec_duties.specs.declared.views.View.{View}
+use Rattle.spec_flights.specs.Flights as flights
 use Rattle.spec_flights.specs.Flights.{Flight, Flights, flight_after, flight_at, flights_touched, unflown}
 use Rattle.spec_cases.specs.Cases.{Dutiful, IsDutiful, Known, first_known, flown, known_after, known_after_all}
 use Rattle.kept_flights.specs.Places.{Happens, observed, seen_before, world_before}
@@ -47,9 +48,22 @@ seen w me = option_map_or view_of (find w.hosts me) unborn
 abbrev pub touched : EndpointId → Event → View → TouchedEndpoint
 touched me event before = record { host = me.host; place = me.number; event = event; before = before }
 
+-- what happens at an endpoint is one thing
+pub one_event : (s : Observation) (me : EndpointId) (event other : Event) (before other_before : View) → Happens s me event before
+    → Happens s me other other_before → (event ≡ other) × (before ≡ other_before)
+one_event s me event other before other_before here there =
+    let one : touched me event before ≡ touched me other other_before =
+    same_Some (touched me event before) (touched me other other_before) (sym here ∙ there) in
+    (ap (λ (t : TouchedEndpoint). t.event) one, ap (λ (t : TouchedEndpoint). t.before) one)
+
 -- what is kept of an endpoint
 abbrev pub flight_in : Flights → EndpointId → Flight
 flight_in fs me = flight_at fs me.host me.number
+
+-- at the start
+pub started : (host : Host) (place : ℕ) → flight_at flights.start host place ≡ unflown
+started Zero place = refl
+started One place = refl
 
 -- ---- one step
 
@@ -188,3 +202,20 @@ module _ (h : Header) (xs : List (Stamped tcp_shape)) where
         → ((place : ℕ) → from ≤ place → place < to → Q (flight_before place me) → Keeps place) → Q (flight_before to me)
     run_keeps from to le old each =
         onward (λ place. Q (flight_before place me)) from to le old (λ place low high here. place_after place (λ none. here) (each place low high here))
+
+  -- the same of facts that speak of the place: `stays`, where no step is at the endpoint
+  module _ (six : says_sender h.version ≡ true) (Q : ℕ → Flight → Type 0) (me : EndpointId) where
+    pub run_tells : (from to : ℕ) → from ≤ to → Q from (flight_before from me)
+        → ((place : ℕ) (f : Flight) → ((event : Event) (before : View) → Happens (observed h xs place) me event before → ⊥) → Q place f → Q (suc place) f)
+        → ((place : ℕ) → from ≤ place → place < to → Q place (flight_before place me) → Keeps six (Q (suc place)) me place)
+        → Q to (flight_before to me)
+    run_tells from to le old stays each =
+        onward (λ place. Q place (flight_before place me)) from to le old
+        (λ place low high here. place_after six (Q (suc place)) me place (λ none. stays place (flight_before place me) none here) (each place low high here))
+
+    -- from the start
+    pub run_shows : (place : ℕ) → Q 0 unflown
+        → ((n : ℕ) (f : Flight) → ((event : Event) (before : View) → Happens (observed h xs n) me event before → ⊥) → Q n f → Q (suc n) f)
+        → ((n : ℕ) → Q n (flight_before n me) → Keeps six (Q (suc n)) me n) → Q place (flight_before place me)
+    run_shows place old stays each =
+        run_tells 0 place (omega arith) (subst (Q 0) (sym (started me.host me.number)) old) stays (λ n low high here. each n here)

@@ -1,10 +1,9 @@
 -- What was reported isn't built again in fast recovery.
-use Rattle.std.proofs.Common.{◌≡◌, ℕ, suc, ◌+◌, ◌<◌, ◌≤◌, min, Bool, true, false, List, Option, None, Some, refl, ap, sym, subst, ◌∙◌, arith}
-use Rattle.std.specs.Prelude.{◌&&◌, if◌then◌else◌, nat_lt, not}
+use Rattle.std.proofs.Common.{◌≡◌, ℕ, suc, ◌+◌, ◌<◌, ◌≤◌, min, Bool, true, false, List, Option, refl, ap, sym, subst, ◌∙◌, arith}
+use Rattle.std.specs.Prelude.{◌&&◌}
 use Rattle.std.specs.FinSet.{contains, from_list}
 use Rattle.std.specs.Ordering.{nat_cmp}
 use Rattle.std.specs.Option.{option_map_or}
-use Rattle.std.proofs.lemmas.Bool.Decides.{nat_tests}
 use Rattle.std.proofs.lemmas.Option.{same_Some}
 use Rattle.case_forms.specs.Versions.{says_sender}
 use Rattle.case_forms.specs.declared.timer.RecoveryChange.TheVariants.{Begins}
@@ -12,46 +11,35 @@ use Rattle.case_forms.specs.declared.steps.SegmentPlan.{SegmentPlan}
 use Rattle.case_forms.specs.declared.trace.Header.{Header}
 use Rattle.streams.specs.Ranges.{meets}
 use Rattle.streams.proofs.RangeLemmas.{meets_none}
-use Rattle.spec_network.specs.Hosts.{At, HostStep, Makes, Stamped, Takes, World}
+use Rattle.spec_network.specs.Hosts.{At, HostStep, Makes, Stamped, Takes}
 use Rattle.spec_network.specs.HostSteps.{Lawful, start}
-use Rattle.spec_network.specs.Tables.{on}
 use Rattle.spec_tcp.specs.Machine.{tcp, tcp_shape}
 use Rattle.spec_tcp.specs.Endpoints.{snd_max}
 use Rattle.spec_tcp.specs.Makes.Payload.{making_length}
 use Rattle.spec_tcp.specs.declared.endpoint.EndpointId.{EndpointId}
 use Rattle.spec_duties.specs.Observations.{observe, unseen}
 use Rattle.spec_duties.specs.Resent.{judges_repeats}
-use Rattle.spec_duties.specs.Strict.{is_fin_alone}
 use Rattle.spec_duties.specs.declared.events.Event.{Event}
 use Rattle.spec_duties.specs.declared.events.Event.TheVariants.{Builds, Recovers}
 use Rattle.spec_duties.specs.declared.observations.Observation.{Observation}
 use Rattle.spec_duties.specs.declared.observations.SynChange.{SynChange}
 use Rattle.spec_duties.specs.declared.observations.SynChange.TheVariants as syn_change
-use Rattle.spec_duties.specs.declared.observations.TouchedEndpoint.{TouchedEndpoint}
 use Rattle.spec_duties.specs.declared.views.View.{View}
-use Rattle.spec_flights.specs.Marks.{goes_again}
 use Rattle.spec_flights.specs.Scoreboard.{number_built}
-use Rattle.spec_flights.specs.Flights.{Flight, board_after, broken_at, flight_at}
+use Rattle.spec_flights.specs.Flights.{Flight, board_after}
 use Rattle.spec_flights.specs.Delivered.{read_reports}
 use Rattle.spec_flights.specs.Recovering.{is_recovering, recovery_after}
 use Rattle.spec_flights.specs.Sides.{are_selective, sides_after}
-use Rattle.spec_cases.specs.Cases.{Dutiful, Known, first_known, refused_by}
+use Rattle.spec_cases.specs.Cases.{Dutiful, first_known}
 use Rattle.flights.specs.Promises.{WhatIsToldStays}
 use Rattle.kept_flights.specs.Places.{Happens, IsStep, observed, seen_before, world_before}
-use Rattle.kept_flights.specs.Reported.{BothPermit, IsBuilt, HasBegunRecovery, HasSyn, Holds, IsReported, StaysOut, WhatWasReportedStays, reports}
+use Rattle.kept_flights.specs.Reported.{BothPermit, IsBuilt, HasBegunRecovery, HasSyn, IsReported, StaysOut, WhatWasReportedStays, reports}
+use Rattle.kept_flights.proofs.Accepted.{accepted, again}
 use Rattle.kept_flights.proofs.Kept.{Told, board_begins, board_keeps, fast_keeps, own_begins, own_keeps, peers_keeps}
 use Rattle.kept_flights.proofs.Positions.{becomes, una_rises}
 use Rattle.kept_flights.proofs.Syns.{taken_once}
 use Rattle.kept_flights.proofs.Taking.{Read, built_there, reads}
-use Rattle.kept_flights.proofs.Runs.{dutiful_there, flight_before, known_before, model_is, place_makes, run_keeps, touched}
-
--- what happens at an endpoint is one thing
-one_event : (s : Observation) (me : EndpointId) (event other : Event) (before other_before : View) → Happens s me event before → Happens s me other other_before
-    → (event ≡ other) × (before ≡ other_before)
-one_event s me event other before other_before here there =
-    let one : touched me event before ≡ touched me other other_before =
-    same_Some (touched me event before) (touched me other other_before) (sym here ∙ there) in
-    (ap (λ (t : TouchedEndpoint). t.event) one, ap (λ (t : TouchedEndpoint). t.before) one)
+use Rattle.kept_flights.proofs.Runs.{flight_before, one_event, place_makes, run_keeps}
 
 module _ (h : Header) (xs : List (Stamped tcp_shape)) (me : EndpointId) (six : says_sender h.version ≡ true)
     (lawful : Lawful (tcp h) (start (tcp h)) xs) where
@@ -165,34 +153,6 @@ module _ (h : Header) (xs : List (Stamped tcp_shape)) (me : EndpointId) (six : s
       let sent = read.sent in
       omega (arith, first, last, made, sent)
 
-  -- ---- the segment isn't refused
-
-  accepted : Dutiful h (first_known h) xs → judges_repeats h.congestion ≡ true → (place : ℕ) (m : SegmentPlan) (b : IsBuilt h xs place me m)
-      → broken_at true (b.step.0 + h.grain) (Builds m) b.before (flight_before h xs place me) ≡ None
-  accepted may judged place m b =
-      let k : Known = known_before h xs place in
-      let none : refused_by h b.step.0 k (At me.host (Makes m)) ≡ None =
-      (dutiful_there h xs may place (record { moment = b.step.0; step = At me.host (Makes m) }) b.step.1).flights in
-      let is : (observe h b.step.0 k.model (At me.host (Makes m))).touched ≡ Some (touched me (Builds m) b.before) =
-      ap (λ (w : World tcp_shape). (observe h b.step.0 w (At me.host (Makes m))).touched) (model_is h xs place)
-      ∙ ap (λ (s : Observation). s.touched) (sym (shown place (Makes m) b.step)) ∙ b.happens in
-      sym
-      (ap (λ (j : Bool). if j then on (observe h b.step.0 k.model (At me.host (Makes m))).touched None
-      (λ t. broken_at (judges_repeats h.congestion) (b.step.0 + h.grain) t.event t.before (flight_at k.flights t.host t.place)) else None) six
-      ∙ ap (λ (o : Option TouchedEndpoint). on o None
-      (λ t. broken_at (judges_repeats h.congestion) (b.step.0 + h.grain) t.event t.before (flight_at k.flights t.host t.place))) is
-      ∙ ap (λ (j : Bool). broken_at j (b.step.0 + h.grain) (Builds m) b.before (flight_before h xs place me)) judged)
-      ∙ none
-
--- so it goes again
-again : (v : View) (m : SegmentPlan) (position : ℕ) → is_fin_alone m v ≡ false → Holds m position → position < v.snd_max → goes_again v m ≡ true
-again v m position no_fin holds sent =
-    let low = holds.0 in
-    let high = holds.1 in
-    let some : nat_lt 0 (making_length m) ≡ true = grind (arith, nat_tests, low, high) in
-    let old : nat_lt m.pos v.snd_max ≡ true = grind (arith, nat_tests, low, sent) in
-    (λ i. some i && old i && not (no_fin i))
-
 pub stays : WhatIsToldStays → (h : Header) (xs : List (Stamped tcp_shape)) → says_sender h.version ≡ true → judges_repeats h.congestion ≡ true
     → Lawful (tcp h) (start (tcp h)) xs → Dutiful h (first_known h) xs → WhatWasReportedStays h xs
 stays law h xs six judged lawful may from to position me m less permit r out begun b holds =
@@ -201,7 +161,7 @@ stays law h xs six judged lawful may from to position me m less permit r out beg
     let low = was_sent h xs me six lawful from to position less r m b in
     let untold : meets (from_list f.board.told) m.pos (min (m.pos + making_length m) b.before.snd_max) ≡ false =
     law (b.step.0 + h.grain) m b.before f (fast h xs me six lawful to begun)
-    (again b.before m position b.no_fin_alone holds low) (accepted h xs me six lawful may judged to m b) in
+    (again b.before m position b.no_fin_alone holds low) (accepted h xs me six may judged to m b) in
     let is : contains {K = ℕ} {R = nat_cmp} (from_list f.board.told) position ≡ false =
     meets_none (from_list f.board.told) m.pos (min (m.pos + making_length m) b.before.snd_max) untold position holds.0 (omega (arith, low, high)) in
     let bad : true ≡ false = sym (told h xs me six lawful from to position less permit r out) ∙ is in

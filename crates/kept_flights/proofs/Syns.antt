@@ -122,7 +122,7 @@ pub record TakesSyn (h : Header) (moment : ℕ) (w : World tcp_shape) (step : St
   pub irs : Word
   pub known : now.irs ≡ Some irs
 
-pick_here : {X : Type 0} (both : Both X) (host : Host) (x : X) → pick (with_host both host x) host ≡ x
+pub pick_here : {X : Type 0} (both : Both X) (host : Host) (x : X) → pick (with_host both host x) host ≡ x
 pick_here both Zero x = refl
 pick_here both One x = refl
 

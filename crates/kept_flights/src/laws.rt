@@ -12,6 +12,7 @@ ghost use Rattle.spec_duties.specs.Resent.{judges_repeats};
 ghost use Rattle.spec_cases.specs.Cases.{Dutiful, first_known};
 ghost use Rattle.checker.specs.Explains.{Explains};
 ghost use Rattle.checker.specs.Seen.{stamped};
+ghost use Rattle.kept_flights.specs.Reasons.{RepeatsHaveReasons};
 ghost use Rattle.kept_flights.specs.Reported.{WhatWasReportedStays};
 
 use flights::what_is_told_stays;
@@ -31,3 +32,26 @@ pub fn what_was_reported_stays()
 {
     what_is_told_stays()
 }
+
+/// In version 6, at `congestion full` or `recovery`: unless both SYNs permitted selective acknowledgments, an endpoint
+/// builds a position again only if there was a reason since it built it before, so at most once for each reason. The
+/// reasons are:
+///
+/// - Its retransmission timer or its persist timer expired (RFC 6298, 5.4; RFC 9293, 3.8.6.1).
+/// - A segment opened its window while the persist timer ran.
+/// - Fast recovery began, and the position was in the first segment of what was outstanding (RFC 5681, 3.2, step 3).
+/// - In fast recovery, which wasn't undone, a segment acknowledged more, but not all that was sent when it began; and
+///   the position was in the first segment then (RFC 6582, 3.2, step 3).
+/// - The position is that of its SYN, and the peer's SYN came without acknowledging it, or came again (RFC 9293,
+///   3.10.7.3 and 3.10.7.4).
+///
+/// A FIN alone that it sent before doesn't count as building. This is true of each case that gets a yes.
+pub fn repeats_have_reasons()
+    ensures yes { (t : Trace) (w : Witness) → Explains t w → says_sender t.header.version ≡ true
+        → judges_repeats t.header.congestion ≡ true → RepeatsHaveReasons t.header (stamped t.header t.lines w.steps) }
+
+    // So is it of each run of the model of which data in flight refuses no step.
+    ensures runs { (h : Header) (xs : List (Stamped tcp_shape)) → says_sender h.version ≡ true
+        → judges_repeats h.congestion ≡ true → Lawful (tcp h) (start (tcp h)) xs → Dutiful h (first_known h) xs
+        → RepeatsHaveReasons h xs }
+{}

@@ -15,10 +15,11 @@
 //! - `specs/Reported`: what a block reported isn't sent again in fast recovery
 //! - `specs/Holding`: the blocks that are sent are true
 //! - `specs/Peers`: what a block reports was received by the peer
+//! - `specs/Reasons`: without selective acknowledgments, nothing is sent again without a new reason
 #![tactic(auto)]
 
 mod blocks;
 mod laws;
 
 pub use blocks::{blocks_are_true, reports_are_taken};
-pub use laws::what_was_reported_stays;
+pub use laws::{repeats_have_reasons, what_was_reported_stays};
