@@ -20,3 +20,6 @@ pub mod Probing
 pub mod Resets
 pub mod Children
 pub mod Made
+pub mod Stricter
+pub mod StrictSince
+pub mod Followed
