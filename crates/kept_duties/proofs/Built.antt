@@ -79,7 +79,7 @@ module _ (h : Header) (slack n : ℕ) (acts : ℕ → Option (Stamped tcp_shape)
   count_built j x host low is makes =
       count_next j x low is ∙ ap (λ (o : Option Host). if is_some o then suc (known j).model.count else (known j).model.count) makes
 
-  low_number : (to : ℕ) (host : Host) (number : ℕ) → to ≤ n → WasBuilt to host number → number ≤ (known to).model.count
+  pub low_number : (to : ℕ) (host : Host) (number : ℕ) → to ≤ n → WasBuilt to host number → number ≤ (known to).model.count
   low_number to host number high b =
       let low = b.low in
       let rise = counts_rise (suc b.place) to (omega arith) high in

@@ -27,7 +27,8 @@ use Rattle.spec_duties.specs.declared.views.View.{View}
 use Rattle.checker.specs.Again.{nowhere}
 use Rattle.kept_duties.specs.Counts.{builds_mere, count_before, event_for, sent_by}
 use Rattle.kept_duties.specs.Expiries.{runs_on, runs_since}
-use Rattle.kept_duties.specs.Places.{ArrivesAt, IsProcessed, SendsAt, built_before}
+use Rattle.kept_duties.specs.Made.{IsSentBy}
+use Rattle.kept_duties.specs.Places.{ArrivesAt, BuildsAt, IsProcessed, SendsAt, built_before}
 use Rattle.kept_duties.specs.Probes.{probe_time, probes_after}
 use Rattle.kept_duties.specs.Repeats.{again_end, begins}
 use Rattle.kept_duties.specs.Resets.{SendsReset, awaits_reset}
@@ -111,6 +112,10 @@ module _ (wire : Wire) where
     sends = refl;
   }
 
+  -- the first of the two is sent within 30 of 14
+  in_time_here : IsSentBy facts_trace facts_witness 2 44 One 1
+  in_time_here = record { later = 4; moment = 40; behind = omega arith; sends = sent_here; soon = omega arith }
+
   number_here : sent_by facts_trace (labels.L (record { number = 12; extras = extras.One 1 })) ≡ Some 1
   number_here = refl
 
@@ -140,6 +145,9 @@ built_here = record {
   builds = record { label = labels.M One ack; step = record { span = nowhere; here = refl }; builds = refl; count = refl };
   soon = omega arith;
 }
+
+second_is_built : BuildsAt facts_witness 3 15 One 2
+second_is_built = record { label = labels.M One bytes; step = record { span = nowhere; here = refl }; builds = refl; count = refl }
 
 two_are_built : built_before facts_witness 4 ≡ 2
 two_are_built = refl

@@ -19,3 +19,7 @@ pub mod Expiries
 pub mod Probing
 pub mod Resets
 pub mod Children
+pub mod Made
+pub mod Stricter
+pub mod StrictSince
+pub mod Followed

@@ -1,6 +1,6 @@
 -- A witness that explains its trace, place by place: what is known before each step, and what the step does to it.
 use Rattle.std.proofs.Common.{◌≡◌, ℕ, zero, suc, ◌<◌, ◌≤◌, ◌⊎◌, inl, inr, List, [], ◌∷◌, length, take, Option, Some, None, refl, ap, sym, subst, ◌∙◌, arith}
-use Rattle.std.specs.Prelude.{false, slice_get, get_or}
+use Rattle.std.specs.Prelude.{Bool, false, if◌then◌else◌, slice_get, get_or, true}
 use Rattle.std.specs.List.{AllByRecursion, cons_option}
 use Rattle.std.specs.Option.{option_map_or}
 use Rattle.std.proofs.Math.Nat.{eq-or-lt_of_le}
@@ -22,7 +22,7 @@ use Rattle.verdict.specs.declared.rule.Rule.TheVariants as rules
 use Rattle.spec_cases.specs.Cases.{Known, Dutiful, first_known, known_after, known_after_all, shown, untrue_at, watch_rules, with_waits}
 use Rattle.spec_duties.specs.Observations.{observe, view_in}
 use Rattle.spec_duties.specs.Watching.{Duties, built_after, built_by, counts_now, drops_needed, duty_rules, duties_after, inbox_after, listening_after}
-use Rattle.spec_duties.specs.Watching.{owed_table_after, sent_by}
+use Rattle.spec_duties.specs.Watching.{owed_table_after, sent_by, strict_table_after, unsent_after}
 use Rattle.spec_duties.specs.declared.observations.Observation.{Observation}
 use Rattle.checker.specs.Seen.{act_of, stamped}
 use Rattle.kept_duties.specs.Happens.{act_at, known_before, world_before}
@@ -57,6 +57,14 @@ pub record Goes (h : Header) (slack : ℕ) (k next : Known) (x : Stamped tcp_sha
   pub listening : next.duties.listening
       ≡ listening_after (view_in (after (tcp h) x.moment k.model x.step) (observe h x.moment k.model x.step).touched) x.moment
       (observe h x.moment k.model x.step) k.duties.listening
+  -- what the stricter duties of version 6 keep, by what duties see
+  pub strict : says_sender h.version ≡ true → next.duties.strict
+      ≡ on (judged_by sees.judge (observe h x.moment k.model x.step).touched) k.duties.strict
+      (strict_table_after (view_in (after (tcp h) x.moment k.model x.step) (judged_by sees.judge (observe h x.moment k.model x.step).touched)) x.moment
+      k.duties (sent_by k.duties (observe h x.moment k.model x.step).built_change) (observe h x.moment k.model x.step).sampling)
+  pub unsent : says_sender h.version ≡ true → next.duties.unsent
+      ≡ unsent_after (view_in (after (tcp h) x.moment k.model x.step) (judged_by sees.judge (observe h x.moment k.model x.step).touched)) x.moment
+      k.duties (judged_by sees.judge (observe h x.moment k.model x.step).touched) (observe h x.moment k.model x.step).built_change
 
 -- a step that does something in the model; another changes nothing
 abbrev pub Steps : Header → (slack : ℕ) → (k next : Known) → Option (Stamped tcp_shape) → Type 0
@@ -171,6 +179,16 @@ module _ (h : Header) (lines : List Line) where
         ap (λ (d : Duties). d.listening) noted
         ∙ ap (λ (e : Observation). listening_after (view_in w e.touched) x.moment e k.duties.listening) seen.is
         ∙ listening_seen seen.judge seen.alike w x.moment s.touched s.queueing k.duties.listening;
+    strict = λ six.
+        ap (λ (d : Duties). d.strict) noted
+        ∙ ap (λ (b : Bool). if b then on e.touched k.duties.strict (strict_table_after (view_in w e.touched) x.moment k.duties
+        (sent_by k.duties e.built_change) e.sampling) else k.duties.strict) six
+        ∙ ap (λ (e : Observation). on e.touched k.duties.strict (strict_table_after (view_in w e.touched) x.moment k.duties
+        (sent_by k.duties e.built_change) e.sampling)) seen.is;
+    unsent = λ six.
+        ap (λ (d : Duties). d.unsent) noted
+        ∙ ap (λ (b : Bool). if b then unsent_after (view_in w e.touched) x.moment k.duties e.touched e.built_change else k.duties.unsent) six
+        ∙ ap (λ (e : Observation). unsent_after (view_in w e.touched) x.moment k.duties e.touched e.built_change) seen.is;
   }
     where
       w : World tcp_shape

@@ -69,7 +69,7 @@ pub answers_from : (event : Event) (before after : View) → is_answer event ≡
 answers_from (Sends s) before after is = is
 answers_from event before after is = absurd cc
 
-receives_in : (state : State) → is_ended state ≡ false → receives state ≡ true
+pub receives_in : (state : State) → is_ended state ≡ false → receives state ≡ true
 receives_in states.Listen is = refl
 receives_in states.SynSent is = refl
 receives_in states.SynReceived is = refl
@@ -81,7 +81,7 @@ receives_in state is = absurd cc
 more_from : (before after : View) → acknowledges_more before after ≡ true → AcknowledgesMore before after
 more_from before after is = grind (arith, nat_tests, is)
 
-sends_oldest_from : (event : Event) (before after : View) → (sends_oldest event before || acknowledges_more before after) ≡ true
+pub sends_oldest_from : (event : Event) (before after : View) → (sends_oldest event before || acknowledges_more before after) ≡ true
     → SendsOldest event before after
 sends_oldest_from (Sends s) before after is =
     by (either_true (holds s before.snd_una || before.snd_wnd == 0) (acknowledges_more before after) is)
@@ -158,7 +158,7 @@ acknowledge_onward event before after moment listener counts o since is =
     by true answers = inl (answers_from event before after answers)
     by false answers = inr (inr (asks (asks_ack event before.state moment o.acknowledged)))
 
-or_now : (o : Option ℕ) (moment since : ℕ) → option_or o (Some moment) ≡ Some since → (since ≡ moment) ⊎ (o ≡ Some since)
+pub or_now : (o : Option ℕ) (moment since : ℕ) → option_or o (Some moment) ≡ Some since → (since ≡ moment) ⊎ (o ≡ Some since)
 or_now None moment since is = inl (sym (same_Some moment since is))
 or_now (Some q) moment since is = inr is
 

@@ -9,3 +9,4 @@ pub mod Asking
 pub mod Expiries
 pub mod Probes
 pub mod Resets
+pub mod Made

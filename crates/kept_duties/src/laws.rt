@@ -126,12 +126,11 @@ pub fn children_are_reset()
         → ChildrenAreReset t w slack }
 {}
 
-/// In versions 1 to 5: after each expiry of a retransmission timer, the oldest unacknowledged position was sent again
-/// or acknowledged at most the slack later; unless the endpoint was CLOSED, or the last step is at most that much later
-/// (RFC 6298, 5.4).
+/// After each expiry of a retransmission timer, the oldest unacknowledged position was sent again or acknowledged at
+/// most the slack later; unless the endpoint was CLOSED, or the last step is at most that much later (RFC 6298, 5.4).
 pub fn expiries_are_followed()
     ensures { (t : Trace) (w : Witness) (slack : ℕ) → Explains t w → t.header.slack ≡ Some slack
-        → says_sender t.header.version ≡ false → ExpiriesAreFollowed t w slack }
+        → ExpiriesAreFollowed t w slack }
 {}
 
 /// In versions 1 to 5: after each expiry of a persist timer, any segment was sent or more was acknowledged at most the

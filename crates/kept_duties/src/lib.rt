@@ -5,12 +5,13 @@
 //! again in time, and nothing was sent too often. Each statement is about places in the list of steps; what duties keep
 //! between the steps doesn't appear in it. This crate has no code, only laws.
 //!
-//! - `laws`: the laws, each the contract of a call that does nothing
+//! - `laws`: the laws, each the contract of a call that does nothing; `strict_laws`: those of version 6 alone
 //!
 //! The definitions:
 //!
 //! - `specs/Places`: what steps do with segments, by the lines and numbers that they name
 //! - `specs/Segments`: each segment that arrived was handled; each that was sent had just been built
+//! - `specs/Made`: in version 6, each segment that was built was sent
 //! - `specs/Drops`: each segment that was dropped may be; what was next in order was kept
 //! - `specs/Happens`: what happens at an endpoint
 //! - `specs/Soon`: by when acknowledgments, retransmissions, probes and waiting data are sent
@@ -21,6 +22,7 @@
 #![tactic(auto)]
 
 mod laws;
+mod strict_laws;
 
 pub use laws::{
     aborts_are_reset, acknowledgments_are_few, arrivals_are_handled, children_are_reset,
@@ -28,3 +30,4 @@ pub use laws::{
     expiries_are_in_time, next_is_kept, nothing_is_resent_twice, probes_are_in_time,
     probes_are_sent, receipts_are_answered, repeats_stay_within, sendings_are_fresh, work_is_begun,
 };
+pub use strict_laws::what_is_built_is_sent;

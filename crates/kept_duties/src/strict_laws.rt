@@ -1,0 +1,16 @@
+//! What a yes with a slack means in version 6, whose duties are stricter.
+
+ghost use Rattle.std.specs.Prelude.{◌≡◌, ℕ, true, Some};
+ghost use Rattle.case_forms.specs.Versions.{says_sender};
+ghost use Rattle.case_forms.specs.declared.trace.Trace.{Trace};
+ghost use Rattle.case_forms.specs.declared.steps.Witness.{Witness};
+ghost use Rattle.checker.specs.Explains.{Explains};
+ghost use Rattle.kept_duties.specs.Made.{WhatIsBuiltIsSent};
+
+/// In version 6: each segment that an `M` or `R` step builds is sent by its host at most the slack later; unless an `M`
+/// step built it, and it is a reset of an endpoint in TIME-WAIT, or the last step is at most the slack later (RFC 9293,
+/// 3.10.2, 3.10.7 and 3.10.7.4).
+pub fn what_is_built_is_sent()
+    ensures { (t : Trace) (w : Witness) (slack : ℕ) → Explains t w → t.header.slack ≡ Some slack
+        → says_sender t.header.version ≡ true → WhatIsBuiltIsSent t w slack }
+{}
