@@ -139,7 +139,7 @@ mere_builds (Builds m) before after is = (m, refl, is)
 mere_builds event before after is = absurd cc
 
 -- what a step that sends shows
-sending_shows : (h : Header) (moment : ℕ) (v : World tcp_shape) (step : Step tcp_shape) (host : Host) (n : ℕ) (m : Made Emission)
+pub sending_shows : (h : Header) (moment : ℕ) (v : World tcp_shape) (step : Step tcp_shape) (host : Host) (n : ℕ) (m : Made Emission)
     → sends step ≡ Some (host, n) → lookup (nat_eq n) (pick v.hosts host).made ≡ Some m
     → (wire : Wire) × ((observe h moment v step).touched ≡ at_sender host (pick v.hosts host).body wire m.emission)
 sending_shows h moment v (At g (Sends line k wire)) host n m e there =
@@ -159,7 +159,7 @@ sending_shows h moment v (At g (Sends line k wire)) host n m e there =
 sending_shows h moment v step host n m e there = absurd (none-some (host, n) e)
 
 -- the sender of a built segment, if it is there
-sender_shows : (v : World tcp_shape) (me : EndpointId) (wire : Wire) (m : Emission) (e : Endpoint) → m.is_reset_reply ≡ false → m.sender.number ≡ me.number
+pub sender_shows : (v : World tcp_shape) (me : EndpointId) (wire : Wire) (m : Emission) (e : Endpoint) → m.is_reset_reply ≡ false → m.sender.number ≡ me.number
     → find v.hosts me ≡ Some e → at_sender me.host (pick v.hosts me.host).body wire m ≡ Some (touched v me (sending_of wire m))
 sender_shows v me wire m e plain number there =
     ap (λ (b : Bool). if b then None else at_place me.host (pick v.hosts me.host).body (sending_of wire m) m.sender.number) plain

@@ -23,7 +23,6 @@ use Rattle.spec_duties.specs.Strict.{coarse_expiry_due, coarse_probing_due, send
 use Rattle.spec_duties.specs.declared.events.Event.{Event}
 use Rattle.spec_duties.specs.declared.events.Event.TheVariants.{Expires, Sends}
 use Rattle.spec_duties.specs.declared.observations.Sampling.{Sampling}
-use Rattle.spec_duties.specs.declared.owed.Lates.{Lates}
 use Rattle.spec_duties.specs.declared.owed.Owed.{Owed}
 use Rattle.spec_duties.specs.declared.strict.StrictOwed.{StrictOwed}
 use Rattle.spec_duties.specs.declared.strict.Unsent.{Unsent}
@@ -41,7 +40,8 @@ use Rattle.kept_duties.proofs.StrictSince.{StrictDuty, arises_strictly}
 oldest_sent : (event : Event) (before : View) → sends_oldest_or_probe event before ≡ true → sends_oldest event before ≡ true
 oldest_sent (Sends s) before is = by (either_true (holds s before.snd_una) (before.snd_wnd == 0 && is_probing_segment s before) is)
   where
-    by : (holds s before.snd_una ≡ true) ⊎ ((before.snd_wnd == 0 && is_probing_segment s before) ≡ true) → (holds s before.snd_una || before.snd_wnd == 0) ≡ true
+    by : (holds s before.snd_una ≡ true) ⊎ ((before.snd_wnd == 0 && is_probing_segment s before) ≡ true)
+        → (holds s before.snd_una || before.snd_wnd == 0) ≡ true
     by (inl held) = ap (λ (b : Bool). b || before.snd_wnd == 0) held
     by (inr probes) =
         or_true (holds s before.snd_una) (before.snd_wnd == 0) (both_true (before.snd_wnd == 0) (is_probing_segment s before) probes).0
@@ -49,9 +49,11 @@ oldest_sent event before is = absurd cc
 
 ends_plainly : (event : Event) (before after : View) → (sends_oldest_or_probe event before || acknowledges_more before after) ≡ true
     → SendsOldest event before after
-ends_plainly event before after is = sends_oldest_from event before after (by (either_true (sends_oldest_or_probe event before) (acknowledges_more before after) is))
+ends_plainly event before after is =
+    sends_oldest_from event before after (by (either_true (sends_oldest_or_probe event before) (acknowledges_more before after) is))
   where
-    by : (sends_oldest_or_probe event before ≡ true) ⊎ (acknowledges_more before after ≡ true) → (sends_oldest event before || acknowledges_more before after) ≡ true
+    by : (sends_oldest_or_probe event before ≡ true) ⊎ (acknowledges_more before after ≡ true)
+        → (sends_oldest event before || acknowledges_more before after) ≡ true
     by (inl sends) = ap (λ (b : Bool). b || acknowledges_more before after) (oldest_sent event before sends)
     by (inr more) = or_true (sends_oldest event before) (acknowledges_more before after) more
 

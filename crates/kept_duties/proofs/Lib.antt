@@ -23,3 +23,6 @@ pub mod Made
 pub mod Stricter
 pub mod StrictSince
 pub mod Followed
+pub mod Acknowledged
+pub mod Senders
+pub mod Answered

@@ -1,7 +1,7 @@
 -- In version 6, what is built is sent in time.
-use Rattle.std.proofs.Common.{◌≡◌, ℕ, suc, ◌+◌, ◌<◌, ◌≤◌, ◌⊎◌, inl, inr, Bool, true, false, List, [], ◌∷◌, length, Option, Some, None, refl, ap, sym, subst, ◌∙◌}
-use Rattle.std.proofs.Common.{nat_eq, arith}
-use Rattle.std.specs.Prelude.{◌&&◌, ◌||◌, not}
+use Rattle.std.proofs.Common.{◌≡◌, ℕ, suc, ◌+◌, ◌<◌, ◌≤◌, ◌⊎◌, inl, inr, Bool, true, false, List, [], ◌∷◌, length, Option, Some, None, refl, ap, sym, subst}
+use Rattle.std.proofs.Common.{◌∙◌, nat_eq, arith}
+use Rattle.std.specs.Prelude.{◌&&◌, not}
 use Rattle.std.specs.Option.{option_map_or}
 use Rattle.std.proofs.lemmas.Bool.Decides.{nat_tests}
 use Rattle.std.proofs.lemmas.Option.{none-some, same_Some, some_pair_parts}
@@ -26,14 +26,13 @@ use Rattle.spec_network.specs.Hosts.{At, Makes, Sends, Stamped, Step, World}
 use Rattle.spec_network.specs.Hosts as model
 use Rattle.spec_network.specs.Tables.{waiting}
 use Rattle.spec_tcp.specs.Machine.{tcp, tcp_shape}
-use Rattle.spec_tcp.specs.declared.endpoint.EndpointId.{EndpointId}
 use Rattle.spec_tcp_laws.proofs.Rules.{both_true, neither}
 use Rattle.spec_cases.specs.Cases.{Dutiful, Known, first_known, known_after_all, late_at_end}
 use Rattle.spec_duties.specs.End.{any_unsent, end_rules, is_send_late}
 use Rattle.spec_duties.specs.Deadlines.{is_late}
 use Rattle.spec_duties.specs.Observations.{observe, view_in}
 use Rattle.spec_duties.specs.Strict.{is_spared}
-use Rattle.spec_duties.specs.Watching.{Duties, built_unsent, unsent_after}
+use Rattle.spec_duties.specs.Watching.{built_unsent, unsent_after}
 use Rattle.spec_duties.specs.declared.events.Event.{Event}
 use Rattle.spec_duties.specs.declared.events.Event.TheVariants as events
 use Rattle.spec_duties.specs.declared.observations.BuiltChange.{BuiltChange}
@@ -42,19 +41,19 @@ use Rattle.spec_duties.specs.declared.observations.TouchedEndpoint.{TouchedEndpo
 use Rattle.spec_duties.specs.declared.strict.Unsent.{Unsent}
 use Rattle.spec_duties.specs.declared.views.View.{View}
 use Rattle.checker.specs.Seen.{act_of, moves, stamped}
-use Rattle.kept_duties.specs.Happens.{Happens, act_at, known_before, seen_before}
+use Rattle.kept_duties.specs.Happens.{act_at, known_before}
 use Rattle.kept_duties.specs.Made.{IsSentBy, ResetsTimeWait, WhatIsBuiltIsSent}
-use Rattle.kept_duties.specs.Places.{BuildsAt, IsStep, builder}
+use Rattle.kept_duties.specs.Places.{IsStep, builder}
 use Rattle.kept_duties.specs.Segments.{EndsBy}
 use Rattle.kept_duties.proofs.Built.{WasBuilt, low_number, same_builder, same_place, sent_in_time}
 use Rattle.kept_duties.proofs.Excused.{AsSeen, as_event, judged_by}
 use Rattle.kept_duties.proofs.Inbox.{not_late}
 use Rattle.kept_duties.proofs.Labels.{sends_at}
 use Rattle.kept_duties.proofs.Observations.{BuiltChangeOf, built_change_builds, built_change_of, builds, sends, waiting_elsewhere, waiting_here}
-use Rattle.kept_duties.proofs.Repeats.{goes_of, happens_from}
+use Rattle.kept_duties.proofs.Repeats.{happens_from}
 use Rattle.kept_duties.proofs.Runs.{Goes, Run, run_goes, run_keeps, world_is}
 use Rattle.kept_duties.proofs.Segments.{count_is, end_fine, run, within}
-use Rattle.kept_duties.proofs.Touched.{AsBefore, StepDoes, as_before, name_of, seen, touched}
+use Rattle.kept_duties.proofs.Touched.{AsBefore, StepDoes, as_before, name_of, seen}
 
 -- ---- tables
 
@@ -137,7 +136,8 @@ module _ (h : Header) (slack n : ℕ) (acts : ℕ → Option (Stamped tcp_shape)
             let most = low_number h slack n acts known r j host number (omega (arith, less)) (was_built j behind) in
             let next = of.0 in
             let other : nat_eq number q ≡ false = grind (arith, nat_tests, most, next) in
-            inr (go_on j y goes number (built_change.Builds q) shows ∙ waiting_elsewhere number q (Some (kept_of j y goes)) (known j).duties.unsent other ∙ waits)
+            inr (go_on j y goes number (built_change.Builds q) shows
+            ∙ waiting_elsewhere number q (Some (kept_of j y goes)) (known j).duties.unsent other ∙ waits)
         by (built_change.Sends q) shows of = test (nat_eq number q) refl
           where
             test : (b : Bool) → nat_eq number q ≡ b
@@ -209,7 +209,7 @@ spared_is event before is = absurd cc
 -- ---- the trace and the witness
 
 -- the step that sends a segment, from what it does with it
-sends_step : (step : Step tcp_shape) (host : Host) (number : ℕ) → sends step ≡ Some (host, number)
+pub sends_step : (step : Step tcp_shape) (host : Host) (number : ℕ) → sends step ≡ Some (host, number)
     → (line : ℕ) × (wire : Wire) × (step ≡ At host (Sends line number wire))
 sends_step (At g (Sends line k wire)) host number is =
     let same = some_pair_parts g host k number is in (line, wire, λ i. At (same.0 i) (Sends line (same.1 i) wire))

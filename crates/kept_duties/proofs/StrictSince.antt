@@ -27,7 +27,7 @@ use Rattle.spec_duties.specs.Answering.{any_call, is_unanswered_late}
 use Rattle.spec_duties.specs.End.{any_unsent, either, end_rules, is_brought_late, lates_of_all}
 use Rattle.spec_duties.specs.Observations.{observe}
 use Rattle.spec_duties.specs.Owed.{late_rules, lates_of}
-use Rattle.spec_duties.specs.Strict.{brought_by, nothing_strict, strict_after, strict_lates, with_brought}
+use Rattle.spec_duties.specs.Strict.{nothing_strict, strict_after, strict_lates, with_brought}
 use Rattle.spec_duties.specs.Views.{unborn, view_of}
 use Rattle.spec_duties.specs.Watching.{listener_closed, owed_by, sent_by, strict_by}
 use Rattle.spec_duties.specs.declared.events.Event.{Event}

@@ -1,11 +1,10 @@
 -- What an endpoint owes by the stricter duties of version 6, step by step.
-use Rattle.std.proofs.Common.{◌≡◌, ℕ, suc, ◌+◌, ◌<◌, ◌≤◌, ◌⊎◌, inl, inr, Bool, true, false, List, length, Option, Some, None, refl, ap, sym, subst, ◌∙◌, cond}
+use Rattle.std.proofs.Common.{◌≡◌, ℕ, ◌⊎◌, inl, inr, Bool, true, false, List, Option, Some, None, refl, ap, sym, subst, ◌∙◌, cond}
 use Rattle.std.proofs.Common.{nat_eq, arith}
-use Rattle.std.specs.Prelude.{◌||◌, if◌then◌else◌, unwrap_or}
+use Rattle.std.specs.Prelude.{if◌then◌else◌, unwrap_or}
 use Rattle.std.specs.List.{AllByRecursion}
 use Rattle.std.specs.Map.{lookup}
 use Rattle.std.proofs.lemmas.Bool.Decides.{nat_tests}
-use Rattle.std.proofs.lemmas.Option.{none-some}
 use Rattle.indexmap.specs.IndexMap.{insert_entry}
 use Rattle.case_forms.specs.Versions.{says_sender}
 use Rattle.case_forms.specs.declared.calls.Host.{Host}
@@ -31,7 +30,7 @@ use Rattle.spec_duties.specs.declared.owed.Lates.{Lates}
 use Rattle.spec_duties.specs.declared.strict.StrictOwed.{StrictOwed}
 use Rattle.kept_duties.proofs.Excused.{judged_by}
 use Rattle.kept_duties.proofs.Runs.{Goes}
-use Rattle.kept_duties.proofs.Touched.{AsBefore, Touches, as_before, seen, touched}
+use Rattle.kept_duties.proofs.Touched.{AsBefore, as_before, seen, touched}
 
 -- what an endpoint owes so in a table
 abbrev strict_in : Both (List (ℕ × StrictOwed)) → EndpointId → StrictOwed

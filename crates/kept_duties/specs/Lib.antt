@@ -10,3 +10,4 @@ pub mod Expiries
 pub mod Probes
 pub mod Resets
 pub mod Made
+pub mod Answered

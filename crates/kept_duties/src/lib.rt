@@ -14,6 +14,7 @@
 //! - `specs/Made`: in version 6, each segment that was built was sent
 //! - `specs/Drops`: each segment that was dropped may be; what was next in order was kept
 //! - `specs/Happens`: what happens at an endpoint
+//! - `specs/Answered`: in version 6, an answer is built after what it answers, and sent in time
 //! - `specs/Soon`: by when acknowledgments, retransmissions, probes and waiting data are sent
 //! - `specs/Asking`: which dropped segments ask for an acknowledgment, and by when it is sent
 //! - `specs/Expiries`, `specs/Probes`: by when retransmission timers expire and closed windows are probed
@@ -30,4 +31,4 @@ pub use laws::{
     expiries_are_in_time, next_is_kept, nothing_is_resent_twice, probes_are_in_time,
     probes_are_sent, receipts_are_answered, repeats_stay_within, sendings_are_fresh, work_is_begun,
 };
-pub use strict_laws::what_is_built_is_sent;
+pub use strict_laws::{receipts_are_answered_after, what_is_built_is_sent};

@@ -5,6 +5,7 @@ ghost use Rattle.case_forms.specs.Versions.{says_sender};
 ghost use Rattle.case_forms.specs.declared.trace.Trace.{Trace};
 ghost use Rattle.case_forms.specs.declared.steps.Witness.{Witness};
 ghost use Rattle.checker.specs.Explains.{Explains};
+ghost use Rattle.kept_duties.specs.Answered.{ReceiptsAreAnsweredAfter};
 ghost use Rattle.kept_duties.specs.Made.{WhatIsBuiltIsSent};
 
 /// In version 6: each segment that an `M` or `R` step builds is sent by its host at most the slack later; unless an `M`
@@ -13,4 +14,12 @@ ghost use Rattle.kept_duties.specs.Made.{WhatIsBuiltIsSent};
 pub fn what_is_built_is_sent()
     ensures { (t : Trace) (w : Witness) (slack : ℕ) → Explains t w → t.header.slack ≡ Some slack
         → says_sender t.header.version ≡ true → WhatIsBuiltIsSent t w slack }
+{}
+
+/// In version 6: once an endpoint received something, it built a segment with ACK or RST after this, and sent it at
+/// most half a second and the slack later; unless it was CLOSED, or the last step is at most that much later (RFC 9293,
+/// 3.8.6.3; RFC 5681, 4.2). A segment whose line shows the acknowledgment number from before the text doesn't count.
+pub fn receipts_are_answered_after()
+    ensures { (t : Trace) (w : Witness) (slack : ℕ) → Explains t w → t.header.slack ≡ Some slack
+        → says_sender t.header.version ≡ true → ReceiptsAreAnsweredAfter t w slack }
 {}
