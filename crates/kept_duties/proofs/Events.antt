@@ -15,7 +15,7 @@ use Rattle.case_forms.specs.declared.trace.Span.{Span}
 use Rattle.verdict.specs.Rules.{first_broken}
 use Rattle.verdict.specs.declared.rule.Rule.TheVariants as rules
 use Rattle.interval_order.specs.Placed.{Placed}
-use Rattle.spec_network.specs.Hosts.{At, Stamped, Step, World}
+use Rattle.spec_network.specs.Hosts.{At, Step, World}
 use Rattle.spec_network.specs.Hosts as model
 use Rattle.spec_network.specs.Tables.{on, pick, waiting}
 use Rattle.spec_tcp.specs.Arrives.{AtEndpoint, AtListener, Nobody, Taker, taker, taker_rules}

@@ -8,7 +8,7 @@ use Rattle.case_forms.specs.Versions.{says_sender}
 use Rattle.case_forms.specs.declared.steps.SegmentPlan.{SegmentPlan}
 use Rattle.case_forms.specs.declared.trace.Header.{Header}
 use Rattle.spec_network.specs.Hosts as network
-use Rattle.spec_network.specs.Hosts.{At, Stamped, Step, World}
+use Rattle.spec_network.specs.Hosts.{At, Stamped, World}
 use Rattle.spec_network.specs.Tables.{on}
 use Rattle.spec_tcp.specs.Machine.{tcp_shape}
 use Rattle.spec_tcp.specs.Makes.Payload.{making_length}

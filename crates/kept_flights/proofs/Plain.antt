@@ -7,7 +7,7 @@ use Rattle.case_forms.specs.declared.timer.RecoveryChange.TheVariants.{Begins}
 use Rattle.case_forms.specs.declared.timer.Timer.TheVariants.{Pto, Rto}
 use Rattle.case_forms.specs.declared.trace.Header.{Header}
 use Rattle.spec_network.specs.Hosts as network
-use Rattle.spec_network.specs.Hosts.{At, Stamped, Step, World}
+use Rattle.spec_network.specs.Hosts.{At, Stamped}
 use Rattle.spec_tcp.specs.Machine.{tcp_shape}
 use Rattle.spec_tcp.specs.declared.endpoint.EndpointId.{EndpointId}
 use Rattle.spec_tcp_laws.proofs.Rules.{both_true}

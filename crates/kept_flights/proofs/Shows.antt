@@ -18,7 +18,7 @@ use Rattle.case_forms.specs.declared.version.Version.{Version}
 use Rattle.verdict.specs.declared.rule.Rule.{Rule}
 use Rattle.spec_network.specs.HostRules.{aim_of}
 use Rattle.spec_network.specs.Hosts as network
-use Rattle.spec_network.specs.Hosts.{Answered, At, Begin, Called, Effect, Finish, HostState, HostStep, Idle, Stamped, Step, Turn, World, turn_of}
+use Rattle.spec_network.specs.Hosts.{Answered, At, Begin, Called, Effect, Finish, Idle, Stamped, Step, Turn, World, turn_of}
 use Rattle.spec_network.specs.HostSteps.{after, effect_after, makes, start}
 use Rattle.spec_network.specs.Tables.{on, pick, waiting}
 use Rattle.spec_tcp.specs.Arrives.{AtEndpoint, AtListener, Nobody, Taker, taker}

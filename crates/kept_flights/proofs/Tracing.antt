@@ -27,7 +27,7 @@ use Rattle.spec_network.specs.Tables.{Both, Made, on, other, pick, with_host}
 use Rattle.spec_tcp.specs.Calls.Close.{shut_down}
 use Rattle.spec_tcp.specs.HostTcp.{HostTcp, place_of, with_endpoint}
 use Rattle.spec_tcp.specs.Machine as acts
-use Rattle.spec_tcp.specs.Machine.{act_makes, made_at, rules_at, tcp, tcp_shape}
+use Rattle.spec_tcp.specs.Machine.{act_makes, made_at, tcp, tcp_shape}
 use Rattle.spec_tcp.specs.Makes.{after_making, emission_of, endpoint_made, making_rules}
 use Rattle.spec_tcp.specs.Makes.Kind.{seq_of}
 use Rattle.spec_tcp.specs.Makes.Payload.{is_bad_payload}
