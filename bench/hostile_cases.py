@@ -17,6 +17,8 @@ the end. The slack is so long that none is late. Those whose names begin with `s
 
 So do those that begin with `selective` or `plain`, whose subject is data in flight: there both SYNs permit SACK, or
 neither does. Most are half cases, in which host 0 sends and its peer chooses every acknowledgment.
+
+The kinds whose names begin with `stamped` have version 6, too. Each of their segments has timestamps (RFC 7323).
 """
 
 import math
@@ -35,6 +37,9 @@ FLIGHT_HEADER = ["trace 6", *HEADER[1:], "hosts 1", "congestion recovery", f"sla
 MSS = 65_495
 SHIFT = 14
 WINDOW = 65_535
+# The first values of all clocks, so that they soon go round, and where a segment shows its clock, in hex digits.
+FIRST_CLOCK = 2**32 - 4
+CLOCK = slice(48, 56)
 # Two segments, the initial congestion window if they are long (RFC 6928, 2).
 INITIAL_WINDOW = 2 * MSS
 # The retransmission timeout before a round trip is measured, and its maximum, in microseconds.
@@ -68,16 +73,33 @@ def find_kind(*sizes):
 
 
 class Connection:
-    """The ports of both ends, by host, their initial send sequence numbers, whether SYNs permit SACK, and their MSS."""
+    """The ports of both ends, by host, their initial send sequence numbers, whether SYNs permit SACK, their MSS, and
+    whether segments have timestamps."""
 
-    def __init__(self, ports=(4000, 80), firsts=(4_294_967_294, 100), selective=False, mss=MSS):
+    def __init__(self, ports=(4000, 80), firsts=(4_294_967_294, 100), selective=False, mss=MSS, stamped=False):
         self.ports = ports
         self.firsts = firsts
         self.selective = selective
         self.mss = mss
+        self.stamped = stamped
+        # By host: its clock, and the clock that it echoes.
+        self.clocks = [FIRST_CLOCK, FIRST_CLOCK]
+        self.echoes = [0, 0]
+
+    def stamps(self, host):
+        """The timestamps of a host's next segment in hex, if it has any. They are its first option."""
+        if not self.stamped:
+            return ""
+        self.clocks[host] = (self.clocks[host] + 1) % 2**32
+        return f"0101080a{self.clocks[host]:08x}{self.echoes[host]:08x}"
+
+    def takes(self, host, text):
+        """From now on, the host echoes the clock of this segment."""
+        if self.stamped:
+            self.echoes[host] = int(text[CLOCK], 16)
 
     def options(self, host, flags, blocks):
-        """The options of a segment in hex. Its blocks are pairs of positions of the other host."""
+        """The other options of a segment in hex. Its blocks are pairs of positions of the other host."""
         if "S" in flags:
             return f"0204{self.mss:04x}01{0x0303:04x}{SHIFT:02x}" + ("01010402" if self.selective else "")
         if not blocks:
@@ -90,7 +112,7 @@ class Connection:
         other = 1 - host
         number = (self.firsts[host] + position) % 2**32
         acknowledgment = 0 if acked is None else (self.firsts[other] + acked) % 2**32
-        options = self.options(host, flags, blocks)
+        options = self.stamps(host) + self.options(host, flags, blocks)
         offset = 5 + len(options) // 8
         return (
             f"{self.ports[host]:04x}{self.ports[other]:04x}{number:08x}{acknowledgment:08x}"
@@ -163,9 +185,11 @@ class Case:
         return self.event(WIRES[host], f"I {host} {text}", f" {out}")
 
     def carry(self, connection, host, position, flags, acked, payload=b"", window=WINDOW, blocks=()):
-        """Makes, sends and delivers a segment. Returns the number of the line of its arrival."""
+        """Makes, sends and delivers a segment, which the other host takes next. Returns the number of the line of its
+        arrival."""
         text = connection.text(host, position, flags, acked, payload, window, blocks)
         made = self.make(connection, host, position, len(payload), flags, window)
+        connection.takes(1 - host, text)
         return self.comes(1 - host, text, self.goes(host, text, made))
 
     def refuse(self, host, line):
@@ -966,13 +990,14 @@ def watched_children_half_open(count):
 class Sender:
     """A half case: host 0 opened a connection and sends, and its peer's window is as wide as it can be."""
 
-    def __init__(self, count, selective=True, mss=MSS):
+    def __init__(self, count, selective=True, mss=MSS, stamped=False):
         """The endpoint accepts this many bytes."""
         self.case = Case(header=FLIGHT_HEADER)
-        self.connection = Connection(selective=selective, mss=mss)
+        self.connection = Connection(selective=selective, mss=mss, stamped=stamped)
         # SND.UNA and SND.MAX, and the positions that were built more than once.
         self.una, self.end, self.again = 0, 1, set()
-        send_syn(self.case, self.connection)
+        syn, _ = send_syn(self.case, self.connection)
+        self.connection.takes(1, syn)
         self.socket = self.case.socket
         self.process(0, "AS", 1)
         self.case.make(self.connection, 0, 1, 0, "A")
@@ -990,6 +1015,7 @@ class Sender:
         line = self.case.event(WIRES[0], f"I 0 {text}")
         sample = int(acked > self.una and acked - 1 not in self.again)
         self.case.take(0, line, INITIAL_WINDOW, keep=int(len(payload) > 0), sample=sample)
+        self.connection.takes(0, text)
         self.una = max(self.una, acked)
 
     def hear(self, acked=None, blocks=(), window=WINDOW):
@@ -1484,9 +1510,10 @@ def ranges_behind(holes, end):
     return [part for part in parts if part[0] < part[1]]
 
 
-def transfer(count, selective, lost):
-    """Host 0 sends this many segments, a hundred at a time. Of each hundred, those at these places are lost."""
-    case, connection = Case(header=STRICT_HEADER), Connection(selective=selective)
+def transfer(count, connection, lost):
+    """Host 0 sends this many segments, a hundred at a time. Of each hundred, those at these places are lost: none, if
+    segments have timestamps."""
+    case = Case(header=STRICT_HEADER)
     opener, child, _ = connected(case, connection)
     case.take(0, case.carry(connection, 1, 1, "A", 1), INITIAL_WINDOW)
     payload = bytes(SEGMENT)
@@ -1503,6 +1530,7 @@ def transfer(count, selective, lost):
             if position in holes:
                 continue
             case.take(1, case.comes(1, text, out), INITIAL_WINDOW, keep=1)
+            connection.takes(1, text)
             behind = position + SEGMENT
             line = case.carry(connection, 1, 1, "A", min(behind, first), blocks=ranges_behind(holes, behind))
             case.take(0, line, INITIAL_WINDOW, sample=int(position < first))
@@ -1518,12 +1546,35 @@ def transfer(count, selective, lost):
 
 @kind(2_000, 4_000, 8_000)
 def selective_transfer(count):
-    return transfer(count, True, [17, 50, 51, 93])
+    return transfer(count, Connection(selective=True), [17, 50, 51, 93])
 
 
 @kind(2_000, 4_000, 8_000)
 def plain_transfer(count):
-    return transfer(count, False, [])
+    return transfer(count, Connection(), [])
+
+
+@kind(2_000, 4_000, 8_000)
+def stamped_transfer(count):
+    return transfer(count, Connection(stamped=True), [])
+
+
+@kind(25_000, 50_000, 100_000)
+def stamped_segments_never_sent(count):
+    """After each segment of its peer, host 0 builds one of a byte, which echoes that clock. At the end, every second of
+    them is sent, from the last to the first."""
+    sender = Sender(count, stamped=True)
+    case, connection = sender.case, sender.connection
+    # A clock is echoed if its segment begins at or below what was acknowledged.
+    case.goes(0, connection.text(0, 1, "A", 1), case.make(connection, 0, 1, 0, "A"))
+    built = []
+    for _ in range(count):
+        sender.hear()
+        text = connection.text(0, sender.build(), "A", 1, b"\0")
+        built.append((text, case.made))
+    for text, made in reversed(built[::2]):
+        case.goes(0, text, made)
+    return case
 
 
 def verdict_of(case):

@@ -19,15 +19,16 @@ WINGS = (
         "#186",
         272,
         """seqno segment streams tables window_rules timer_rules spec_network spec_tcp spec_duties spec_flights
-        spec_cases spec_tcp_laws spec_merge endpoint endpoint_state spec_step duties flights watched""",
+        spec_cases spec_tcp_laws spec_merge endpoint endpoint_state spec_step duties flight_parts
+        scoreboard flights watched""",
     ),
     ("Texts", "#36c", 178, "counted case_forms line_fields case_lines case_stream trace_reader witness"),
     (
         "Verdict",
         "#73a",
         196,
-        """verdict answers interval_order checker kept_duties kept_flights parallel_check answer_stream cli
-        tcpwit""",
+        """verdict answers interval_order checker kept_duties kept_calls kept_flights kept_repeats parallel_check
+        answer_stream cli tcpwit""",
     ),
     (
         "Around it",
@@ -38,7 +39,8 @@ WINGS = (
     ),
 )
 # Crates of laws alone, and tests and benchmarks: they have a dashed border.
-DASHED = "spec_tcp_laws spec_merge kept_duties kept_flights test_runs test_cases bench_jobs".split()
+DASHED = """spec_tcp_laws spec_merge kept_duties kept_calls kept_flights kept_repeats test_runs test_cases
+bench_jobs""".split()
 # The programs, and the library for C.
 BOLD = "tcpwit tcpwit_lab tcpwit_c".split()
 

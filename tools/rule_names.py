@@ -23,7 +23,7 @@ from __future__ import annotations
 import enum
 
 # The numbers of the rules, in their order.
-NUMBERS = ({numbers})
+NUMBERS = ({numbers},)
 
 
 class Rule(enum.Enum):

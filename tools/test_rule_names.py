@@ -46,7 +46,7 @@ class Names(unittest.TestCase):
                           ("Later", "It comes after a gap.", "later", 5)])
         python, rust = rule_names.files(rules).values()
         self.assertIn('\n    FIRST_ONE = "first-one"\n    SECOND = "second"\n    LATER = "later"\n\n', python)
-        self.assertIn("NUMBERS = (*range(1, 3), 5)\n", python)
+        self.assertIn("NUMBERS = (*range(1, 3), 5,)\n", python)
         self.assertIn("number: 1, 2 or 5.", python)
         self.assertIn("{\n    /// It is first.\n    FirstOne = 1,\n    /// It is second.\n    Second = 2,\n",
                       rust)

@@ -37,7 +37,7 @@ enum tcpwit_kind {
 /* An answer to a case. Numbers that its kind doesn't have are 0. */
 struct tcpwit_result {
     uint32_t kind;         /* one of enum tcpwit_kind */
-    uint32_t rule;         /* a no: the rule that is broken, by the numbers of rules.md: 1 to 53, 56 or 57 */
+    uint32_t rule;         /* a no: the rule that is broken, by the numbers of rules.md: 1 to 57 */
     uint32_t fault;        /* a text that can't be read: one of enum tcpwit_fault */
     uint64_t lines;        /* a yes: how many event lines the trace has */
     uint64_t hidden;       /* a yes: how many steps use no line */

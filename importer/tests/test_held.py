@@ -8,6 +8,7 @@ from tcpwit_importer.capture.segments import ACK
 from tcpwit_importer.infer.arrivals import Arrivals
 from tcpwit_importer.infer.held import Came, Greatest, Held
 from tcpwit_importer.infer.passages import Passage
+from tcpwit_importer.problem import Notes
 
 
 def passage(place, start, length, acknowledged, edge, blocks=()):
@@ -95,7 +96,7 @@ class Hostile(unittest.TestCase):
         sent = [SimpleNamespace(passage=passage(count + at, 10 + 10 * at, 10, 0, 0, blocks(at)), before=count + at,
                                 packet=SimpleNamespace(moment=count + at)) for at in range(count)]
         begun = time.process_time()
-        self.assertEqual(len(Arrivals(sent, arrivals).packets()), 2 * count)
+        self.assertEqual(len(Arrivals(sent, arrivals, Notes()).packets()), 2 * count)
         return time.process_time() - begun
 
     def test_times(self):

@@ -66,6 +66,40 @@ class Middle:
                 for host in (0, 1)]
 
 
+def stamps(own, echo):
+    """The option for timestamps."""
+    return bytes((1, 1, 8, 10)) + own.to_bytes(4, "big") + echo.to_bytes(4, "big")
+
+
+class Echoes(unittest.TestCase):
+    """What a host echoes shows what came."""
+
+    def middle(self):
+        """A connection with timestamps, whose server sent a byte."""
+        middle = Middle(False)
+        middle.add(0, 0, flags=SYN, options=SIZE + stamps(10, 0))
+        middle.add(1, 0, 1, flags=SYN | ACK, options=SIZE + stamps(50, 10))
+        middle.add(0, 1, 1, options=stamps(11, 50))
+        middle.add(1, 1, 1, b"a", options=stamps(51, 11))
+        return middle
+
+    def test_an_acknowledgment_comes_after_what_echoes_an_older_timestamp(self):
+        for echo, moments in ((11, [3, 5, 5]), (12, [3, 4, 5])):
+            middle = self.middle()
+            middle.add(0, 1, 2, options=stamps(12, 51))
+            middle.add(1, 2, 1, b"b", options=stamps(52, echo))
+            middle.add(1, 3, 1, b"c", options=stamps(53, 12))
+            self.assertEqual([each[3] for each in middle.sides()[1][3:6]], moments)
+
+    def test_a_copy_comes_if_its_timestamp_is_echoed(self):
+        for echo, copies in ((51, 0), (52, 1)):
+            middle = self.middle()
+            middle.add(1, 2, 1, b"b", options=stamps(52, 11))
+            middle.add(0, 1, 3, options=stamps(12, 51))
+            middle.add(0, 1, 3, options=stamps(12, echo))
+            self.assertEqual(len(middle.sides()[0]), 7 + copies, echo)
+
+
 class Positions(unittest.TestCase):
     def test_numbers_wrap(self):
         numbers = Numbers((1 << 32) - 2)

@@ -1,6 +1,6 @@
 /* A small TCP that follows RFC 9293, 6298 and 5681, with window scaling (RFC 7323, 2). It acknowledges each segment at once. It has
  * room for 64 connections and never frees one. With the option `sack`, it also uses SACK (RFC 2018 and 6675) and tail loss probes
- * (RFC 8985, 7).
+ * (RFC 8985, 7). With the option `timestamps`, it has timestamps and PAWS (RFC 7323, 3 to 5), but measures no round trips by them.
  *
  * The variable TOY_DEFECT turns on one of the defects below; the file `defects` lists each with the scenario that finds it, and the file
  * `missed` those that no scenario finds. Without the variable, the stack is correct.
@@ -12,9 +12,10 @@
 #include <string.h>
 
 enum { FIN = 1, SYN = 2, RST = 4, PSH = 8, ACK = 16 };
-enum { CONNECTIONS = 64, SEND_ROOM = 1 << 16, OWN_WINDOW = 1 << 17, OWN_SHIFT = 10, HEADER = 20, LONGEST = 66000, USUAL_MSS = 536 };
-/* The most blocks of a segment without bytes. One with bytes has at most one block, if the peer's MSS isn't less than ROOM_FOR_BLOCK. */
-enum { MOST_BLOCKS = 4, ROOM_FOR_BLOCK = 40 };
+enum { CONNECTIONS = 64, SEND_ROOM = 1 << 16, OWN_WINDOW = 1 << 17, OWN_SHIFT = 10, HEADER = 20, STAMPS = 12, LONGEST = 66000, USUAL_MSS = 536 };
+/* The most blocks of a segment without bytes; one less with timestamps. One with bytes has at most one block, if the peer's MSS isn't less
+ * than ROOM_FOR_BLOCK. */
+enum { MOST_BLOCKS = 4, ROOM_FOR_BLOCK = 40, MOST_OPTIONS = 40 };
 enum { SECOND = 1000000, GRAIN = 1000, OVERRIDE = SECOND / 2 };
 static const uint64_t NEVER = UINT64_MAX;
 static const uint64_t LONGEST_RTO = 60 * (uint64_t)SECOND, GIVE_UP = 180 * (uint64_t)SECOND, TIME_WAIT_LASTS = 60 * (uint64_t)SECOND;
@@ -30,7 +31,7 @@ enum defect {
     BACKLOG_LEAK, UNKNOWN_OPTION_STOPS, TIME_WAIT_NOT_RESTARTED, SYN_ACK_RESENT_ONCE, VARIANCE_UNUSED, ACCEPTED_BY_AGE,
     NO_FAST_RETRANSMIT, NO_WINDOW_UPDATE, ROUND_TRIP_UNUSED, SILLY_WINDOWS,
     BLOCK_TOO_WIDE, BLOCKS_UNPERMITTED, SACKED_RESENT, LOST_RESENT_TWICE, RECOVERY_AFTER_TWO, OLD_BLOCKS_COUNT, SCOREBOARD_KEPT,
-    PROBE_TOO_EARLY, PROBE_REPEATED, NO_BLOCKS, OLDEST_BLOCK_FIRST, DEFECTS
+    PROBE_TOO_EARLY, PROBE_REPEATED, ECHO_OF_THE_LAST_TO_COME, TIMESTAMP_BACK, NO_BLOCKS, OLDEST_BLOCK_FIRST, DEFECTS
 };
 static const char *const defect_names[DEFECTS] = {
     "none", "window-ignored", "rto-not-doubled", "rto-too-early", "no-slow-start", "no-collapse", "fin-not-resent", "duplicates-delivered",
@@ -42,7 +43,7 @@ static const char *const defect_names[DEFECTS] = {
     "syn-ack-resent-once", "variance-unused", "accepted-by-age", "no-fast-retransmit", "no-window-update", "round-trip-unused",
     "silly-windows",
     "block-too-wide", "blocks-unpermitted", "sacked-resent", "lost-resent-twice", "recovery-after-two", "old-blocks-count",
-    "scoreboard-kept", "probe-too-early", "probe-repeated", "no-blocks", "oldest-block-first"
+    "scoreboard-kept", "probe-too-early", "probe-repeated", "echo-of-the-last-to-come", "timestamp-back", "no-blocks", "oldest-block-first"
 };
 static enum defect defect;
 
@@ -65,6 +66,9 @@ struct connection {
     unsigned char *marks;
     uint32_t lost, probe_end;              /* `probe_end`: until this is acknowledged, there is no other probe */
     enum { NO_PROBE, NEW_PROBE, OLD_PROBE } probe;
+    /* Timestamps, if both SYNs have them: the peer's that is echoed, and the last acknowledgment number sent (RFC 7323, 4.3). */
+    int stamped;
+    uint32_t recent, last_ack;
     /* Receiving: `in` begins with the `unread` bytes; `have` marks the received bytes after them. */
     uint32_t irs, rcv_nxt, edge, room;     /* `edge`: the end of the window that was offered */
     unsigned char *in, *have;
@@ -83,7 +87,7 @@ static struct connection connections[CONNECTIONS];
 static int opened;
 static unsigned established;
 static struct stack_config config;
-static int uses_sack;
+static int uses_sack, uses_timestamps;
 enum mark { SACKED = 1, AGAIN = 2 };       /* AGAIN: sent again since the last timeout */
 
 static int before(uint32_t a, uint32_t b) { return (int32_t)(a - b) < 0; }
@@ -100,6 +104,8 @@ struct segment {
     uint32_t seq, ack, count, mss;
     int shift;                             /* -1: no such option */
     int permits;                           /* it permits SACK */
+    int stamped;                           /* it has timestamps; `stamp` is its own */
+    uint32_t stamp;
     uint32_t blocks[MOST_BLOCKS][2];
     unsigned block_count;
     const unsigned char *bytes;
@@ -124,6 +130,10 @@ static void read_options(struct segment *segment, const unsigned char *at, const
         if (at[0] == 3 && at[1] == 3) segment->shift = at[2] < 14 ? at[2] : 14;
         if (at[0] == 4 && at[1] == 2) segment->permits = 1;
         if (at[0] == 5 && at[1] % 8 == 2) read_blocks(segment, at);
+        if (at[0] == 8 && at[1] == 10) {
+            segment->stamped = 1;
+            segment->stamp = number_at(at + 2);
+        }
         at += at[1];
     }
 }
@@ -223,18 +233,38 @@ static unsigned put_blocks(const struct connection *c, unsigned char *options, u
     return length;
 }
 
-/* The blocks of a segment with this many bytes. */
-static unsigned report(const struct connection *c, unsigned char *options, uint32_t count)
+/* ---- Timestamps (RFC 7323) ---- */
+
+/* Writes the option: our clock, in milliseconds from the first sequence number on, and the timestamp that is echoed. Returns its length. */
+static unsigned put_stamps(const struct connection *c, unsigned char *options)
 {
-    if (!c->sack || c->fin_taken || defect == NO_BLOCKS) return 0;
-    return put_blocks(c, options, !count ? MOST_BLOCKS : c->mss >= ROOM_FOR_BLOCK);
+    int set_back = defect == TIMESTAMP_BACK && c->una != c->iss;
+    memcpy(options, (unsigned char[]){ 1, 1, 8, 10 }, 4);
+    put_number(options + 4, c->iss + (uint32_t)(stack_now() / 1000) - (set_back ? 1000 : 0));
+    put_number(options + 8, c->recent);
+    return STAMPS;
+}
+
+/* RFC 7323, 4.3: a segment that begins at most at the last acknowledgment number, and isn't older, has the timestamp that is echoed. */
+static void take_stamp(struct connection *c, const struct segment *s)
+{
+    if (!c->stamped || !s->stamped || before(s->stamp, c->recent)) return;
+    if (!before(c->last_ack, s->seq) || defect == ECHO_OF_THE_LAST_TO_COME) c->recent = s->stamp;
+}
+
+/* The options of a segment with this many bytes, but for a SYN. */
+static unsigned put_options(const struct connection *c, unsigned char *options, uint32_t count)
+{
+    unsigned length = c->stamped ? put_stamps(c, options) : 0;
+    if (!c->sack || c->fin_taken || defect == NO_BLOCKS) return length;
+    return length + put_blocks(c, options + length, !count ? MOST_BLOCKS - !!length : c->mss >= ROOM_FOR_BLOCK);
 }
 
 /* The most bytes of a segment: the peer's MSS without our options (RFC 9293, 3.7.1). */
 static uint32_t segment_room(const struct connection *c)
 {
-    unsigned char options[4 + 8 * MOST_BLOCKS];
-    return c->mss - report(c, options, 1);
+    unsigned char options[MOST_OPTIONS];
+    return c->mss - put_options(c, options, 1);
 }
 
 /* ---- Sending ---- */
@@ -250,10 +280,11 @@ static uint32_t acknowledged_by(const struct connection *c)
 
 static void reply(struct connection *c, unsigned flags, uint32_t seq, uint32_t count)
 {
-    unsigned char options[4 + 8 * MOST_BLOCKS];
-    unsigned option_bytes = report(c, options, count);
+    unsigned char options[MOST_OPTIONS];
+    unsigned option_bytes = put_options(c, options, count);
     c->ack_due = 0;
     c->ack_at = NEVER;
+    c->last_ack = acknowledged_by(c);
     leave(c->local, c->remote, seq, acknowledged_by(c), flags | ACK, offer(c, 0), options, option_bytes,
           count ? c->out + (seq - c->out_seq) : NULL, count);
 }
@@ -262,7 +293,7 @@ static void acknowledge(struct connection *c) { reply(c, 0, c->max, 0); }
 
 static void send_syn(struct connection *c)
 {
-    unsigned char options[12] = { 2, 4, 0, 0, 1, 3, 3, (unsigned char)c->rcv_shift };
+    unsigned char options[MOST_OPTIONS] = { 2, 4, 0, 0, 1, 3, 3, (unsigned char)c->rcv_shift };
     put_short(options + 2, config.mss);
     int answers = c->state == SYN_RECEIVED, scaling = !answers || c->send_shift >= 0;
     unsigned length = scaling ? 8 : 4;
@@ -270,6 +301,8 @@ static void send_syn(struct connection *c)
         memcpy(options + length, (unsigned char[]){ 1, 1, 4, 2 }, 4);
         length += 4;
     }
+    if (uses_timestamps && (!answers || c->stamped)) length += put_stamps(c, options + length);
+    c->last_ack = c->rcv_nxt;
     if (c->max != c->iss && defect != KARN_IGNORED) c->timing = 0;   /* it was sent before */
     leave(c->local, c->remote, c->iss, answers ? c->rcv_nxt : 0, SYN | (answers ? ACK : 0), offer(c, 1), options, length, NULL, 0);
 }
@@ -595,6 +628,8 @@ static void take_syn(struct connection *c, const struct segment *s)
     c->mss = defect == MSS_IGNORED ? most_of(config.mss, USUAL_MSS) : s->mss;
     c->send_shift = s->shift;
     c->sack = uses_sack && (s->permits || defect == BLOCKS_UNPERMITTED);
+    c->stamped = uses_timestamps && s->stamped;
+    c->recent = s->stamp;
     if (s->shift < 0) c->rcv_shift = 0;
 }
 
@@ -819,6 +854,7 @@ static void come(struct connection *c, const struct segment *given)
     struct segment segment = *given, *s = &segment;
     if (c->state == SYN_SENT) { come_in_syn_sent(c, s); return; }
     if (c->state == SYN_RECEIVED && s->flags & SYN && s->seq == c->irs) {
+        take_stamp(c, s);
         if (!(s->flags & ACK)) { send_syn(c); return; }
         s->flags &= ~(unsigned)SYN;
         s->seq++;
@@ -828,6 +864,9 @@ static void come(struct connection *c, const struct segment *given)
         if (is_acceptable(c, s) || defect == ANY_RESET) come_reset(c, s);
         return;
     }
+    /* PAWS (RFC 7323, 5.3, R1), and a segment without timestamps (3.2). */
+    if (c->stamped && !s->stamped) return;
+    if (c->stamped && before(s->stamp, c->recent)) { acknowledge(c); return; }
     if (s->flags & SYN) { come_syn(c); return; }
     if (defect == PROBE_UNANSWERED && s->count && c->edge == c->rcv_nxt) return;
     if (!is_acceptable(c, s)) {
@@ -836,6 +875,7 @@ static void come(struct connection *c, const struct segment *given)
         acknowledge(c);
         return;
     }
+    take_stamp(c, s);
     if (!come_acknowledgment(c, s)) return;
     come_text(c, s);
     if (c->state != CLOSED) output(c);
@@ -956,6 +996,7 @@ long stack_start(const struct stack_config *wanted)
     const char *name = getenv("TOY_DEFECT");
     config = *wanted;
     uses_sack = strstr(wanted->options, "sack") != NULL;
+    uses_timestamps = strstr(wanted->options, "timestamps") != NULL;
     if (!name || !*name) return STACK_OK;
     for (int i = 1; i < DEFECTS; i++)
         if (!strcmp(name, defect_names[i])) defect = (enum defect)i;

@@ -115,7 +115,7 @@ func CheckTwo(trace, witness []byte) (Verdict, error) {
 	return read(&answer)
 }
 
-// Rule returns the name of the rule with this number: 1 to 53, 56 or 57. For another number it returns "".
+// Rule returns the name of the rule with this number: 1 to 57. For another number it returns "".
 func Rule(number uint32) string {
 	var name [32]byte
 	length := C.tcpwit_rule_name(C.uint32_t(number), (*C.char)(unsafe.Pointer(&name[0])), C.size_t(len(name)))

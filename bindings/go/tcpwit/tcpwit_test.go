@@ -83,7 +83,7 @@ func TestTwoTexts(t *testing.T) {
 }
 
 func TestRules(t *testing.T) {
-	if Rule(0) != "" || Rule(1) != "line-range" || Rule(53) != "sack-untrue" || Rule(54) != "" || Rule(56) != "sample-due" || Rule(57) != "answer-late" {
+	if Rule(0) != "" || Rule(1) != "line-range" || Rule(54) != "echo" || Rule(57) != "answer-late" || Rule(58) != "" {
 		t.Fatal("other names")
 	}
 }

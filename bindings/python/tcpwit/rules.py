@@ -4,7 +4,7 @@ from __future__ import annotations
 import enum
 
 # The numbers of the rules, in their order.
-NUMBERS = (*range(1, 54), *range(56, 58))
+NUMBERS = (*range(1, 58),)
 
 
 class Rule(enum.Enum):
@@ -63,10 +63,12 @@ class Rule(enum.Enum):
     RESENT_BEYOND = "resent-beyond"
     ACK_EXCESS = "ack-excess"
     SACK_UNTRUE = "sack-untrue"
+    ECHO = "echo"
+    CLOCK_FALLS = "clock-falls"
     SAMPLE_DUE = "sample-due"
     ANSWER_LATE = "answer-late"
 
     @property
     def number(self) -> int:
-        """The rule's number: 1 to 53, 56 or 57."""
+        """The rule's number: 1 to 57."""
         return NUMBERS[list(Rule).index(self)]

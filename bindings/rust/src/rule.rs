@@ -111,6 +111,10 @@ pub enum Rule {
     AckExcess = 52,
     /// A selective acknowledgment reports what the host doesn't hold, or wasn't permitted (RFC 2018, 2 to 4).
     SackUntrue = 53,
+    /// A segment doesn't echo the timestamp that it has to (RFC 7323, 3.2 and 4.3).
+    Echo = 54,
+    /// The timestamp of a segment is older than that of one that was built before it (RFC 7323, 5.2).
+    ClockFalls = 55,
     /// A round trip isn't measured, though none was since this data was sent (RFC 6298, 3).
     SampleDue = 56,
     /// A call that can be answered is answered late (RFC 9293, 3.9.1).
@@ -119,7 +123,7 @@ pub enum Rule {
 
 impl Rule {
     /// All rules, in the order of their numbers.
-    pub const ALL: [Rule; 55] = [
+    pub const ALL: [Rule; 57] = [
         Rule::LineRange,
         Rule::LineAgain,
         Rule::ThreadOrder,
@@ -173,16 +177,18 @@ impl Rule {
         Rule::ResentBeyond,
         Rule::AckExcess,
         Rule::SackUntrue,
+        Rule::Echo,
+        Rule::ClockFalls,
         Rule::SampleDue,
         Rule::AnswerLate,
     ];
 
-    /// The rule with this number: 1 to 53, 56 or 57.
+    /// The rule with this number: 1 to 57.
     pub fn numbered(number: u32) -> Option<Rule> {
         Self::ALL.into_iter().find(|rule| rule.number() == number)
     }
 
-    /// Its number: 1 to 53, 56 or 57.
+    /// Its number: 1 to 57.
     pub fn number(self) -> u32 {
         self as u32
     }
@@ -243,6 +249,8 @@ impl Rule {
             Rule::ResentBeyond => "resent-beyond",
             Rule::AckExcess => "ack-excess",
             Rule::SackUntrue => "sack-untrue",
+            Rule::Echo => "echo",
+            Rule::ClockFalls => "clock-falls",
             Rule::SampleDue => "sample-due",
             Rule::AnswerLate => "answer-late",
         }

@@ -15,7 +15,7 @@ use verdict::{Rule, Verdict};
 pub struct Answer {
     /// 0: yes; 1: no; 2: the trace can't be read; 3: the witness can't be read; 4: memory ran out.
     pub kind: u32,
-    /// A no: the number of the rule that is broken: 1 to 53, 56 or 57.
+    /// A no: the number of the rule that is broken: 1 to 57.
     pub rule: u32,
     /// A text that can't be read: the number of the fault, from 1.
     pub fault: u32,
@@ -97,15 +97,11 @@ fn fault_answer(kind: u32, fault: TextFault) -> Answer
     }
 }
 
-// The number of a rule: they follow one another, but for the last two.
+// The number of a rule: they follow one another.
 fn number_of(rule: Rule) -> u32
     ensures { result ≡ rule_number rule }
 {
-    match rule {
-        Rule::SampleDue => 56,
-        Rule::AnswerLate => 57,
-        _ => rule as u32 + 1,
-    }
+    rule as u32 + 1
 }
 
 // The number of a fault's kind.

@@ -1,6 +1,6 @@
 //! The result whose numbers an answer has.
 
-ghost use Rattle.std.specs.Prelude.{◌≡◌, ◌≢◌, ◌<◌, ◌⊎◌, ℕ, IfSome, None, Result, Some};
+ghost use Rattle.std.specs.Prelude.{◌≡◌, ◌<◌, ◌⊎◌, ℕ, IfSome, None, Result, Some};
 ghost use Rattle.verdict.specs.declared.rule.Rule.{Rule};
 ghost use Rattle.verdict.specs.declared.report.Verdict.{Verdict};
 ghost use Rattle.line_fields.specs.declared.fault.FaultKind.{FaultKind};
@@ -68,7 +68,7 @@ fn fault_of(answer: &Answer) -> Option<TextFault>
 /// The rule with this number. None: no rule has it.
 pub(crate) fn rule_numbered(number: u32) -> Option<Rule>
     ensures found { (rule : Rule) → number ≡ rule_number rule → result ≡ Some rule }
-    ensures none { (number ≡ 0) ⊎ ((53 < number) × (number ≢ 56) × (number ≢ 57)) → result ≡ None }
+    ensures none { (number ≡ 0) ⊎ (57 < number) → result ≡ None }
 {
     Some(match number {
         1 => Rule::LineRange,
@@ -124,6 +124,8 @@ pub(crate) fn rule_numbered(number: u32) -> Option<Rule>
         51 => Rule::ResentBeyond,
         52 => Rule::AckExcess,
         53 => Rule::SackUntrue,
+        54 => Rule::Echo,
+        55 => Rule::ClockFalls,
         56 => Rule::SampleDue,
         57 => Rule::AnswerLate,
         _ => return None,

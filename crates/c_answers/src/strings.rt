@@ -19,7 +19,7 @@ use std::alloc::Global;
 /// has without the zero at its end. A number that no rule has gives an empty string.
 pub fn write_rule_name(rule: u32, name: &mut [u8]) -> usize
     ensures name { (r : Rule) → rule ≡ rule_number r → Writes (rule_name r) name.old name.new result }
-    ensures none { (rule ≡ 0) ⊎ ((53 < rule) × (rule ≢ 56) × (rule ≢ 57)) → Writes [] name.old name.new result }
+    ensures none { (rule ≡ 0) ⊎ (57 < rule) → Writes [] name.old name.new result }
 {
     match rule_numbered(rule) {
         Some(rule) => write_string(rule.name().as_bytes(), name),

@@ -1,5 +1,5 @@
 -- With a greater slack, what explains a trace still explains it; with `any`, duties ask for nothing, and no rule of a duty
--- is named but that what is reported isn't true.
+-- is named but that what a segment shows isn't true.
 use Rattle.std.proofs.Common.{◌≡◌, ℕ, ◌≤◌, Bool, true, false, List, [], ◌∷◌, ◌++◌, Option, None, Some, inl, inr, refl, sym, ap, subst, ◌∙◌}
 use Rattle.std.proofs.Common.{◌+◌, ◌⊎◌, take}
 use Rattle.std.specs.Prelude.{nat_le}
@@ -27,6 +27,9 @@ use Rattle.spec_tcp.specs.Machine.{tcp, tcp_shape}
 use Rattle.spec_tcp_laws.specs.Ascending.{rule_number}
 use Rattle.spec_tcp_laws.proofs.Rules.{at_most_to, both_true}
 use Rattle.duties.proofs.SlackLemmas.{dutiful_any, late_any, nothing_judged}
+use Rattle.spec_duties.specs.Watching.{untrue_rules}
+use Rattle.spec_duties.specs.declared.observations.Untruth.{Untruth}
+use Rattle.spec_duties.specs.declared.observations.Untruth.TheVariants as untruth
 use Rattle.spec_flights.specs.Flights.{judges}
 use Rattle.spec_cases.specs.Cases.{Dutiful, Known, first_known, known_after_all, late_at_end, model_rules, shown, untrue_at, watch_rules}
 use Rattle.spec_cases.specs.Slack.{AtMost, with_slack}
@@ -34,9 +37,9 @@ use Rattle.watched.proofs.AscendLemmas.{tops}
 use Rattle.watched.proofs.RefusalLemmas.{model_top}
 use Rattle.watched.proofs.SlackRuns.{dutiful_with, end_with, lawful_with}
 use Rattle.checker.specs.Explains.{Explains}
-use Rattle.checker.specs.Judges.{BreaksFirst, LeavesLine, OwesAtEnd, rules_at}
+use Rattle.checker.specs.Judges.{BreaksFirst, LeavesLine, OwesAtEnd}
 use Rattle.checker.specs.Seen.{act_of, move_of, moves, stamped}
-use Rattle.checker.specs.Slack.{AnyNamesNoDuty, LessLateStaysYes, trace_with}
+use Rattle.checker.specs.Slack.{AnyNamesNoDuty, IsUntrueLine, LessLateStaysYes, trace_with}
 use Rattle.checker.specs.Verdicts.{act_rules, all_rules, verdict}
 use Rattle.checker.proofs.JudgeLemmas.{verdict_says}
 use Rattle.checker.proofs.JudgedLemmas.{same_counts}
@@ -101,9 +104,9 @@ explained_by_model t w any unjudged placed take_turns run = record {
   in_time = late_any t.header (last_moment (moves w.steps)) (known_after_all t.header (first_known t.header) (stamped t.header t.lines w.steps)) any;
 }
 
--- what a no may name: a rule of order or of the model, or that what is reported isn't true
+-- what a no may name: a rule of order or of the model, or that what a segment shows isn't true
 abbrev MayName : Rule → Type 0
-MayName rule = (rule_number rule ≤ 39) ⊎ (rule ≡ rules.SackUntrue)
+MayName rule = (rule_number rule ≤ 39) ⊎ IsUntrueLine rule
 
 first_named : (xs ys : List (Rule × Bool)) (rule : Rule) → tops xs ≡ true → (first_broken ys ≡ Some rule → MayName rule)
     → first_broken (xs ++ ys) ≡ Some rule → MayName rule
@@ -112,15 +115,17 @@ first_named ((r, true) ∷ xs) ys rule top rest is =
     inl (subst (λ (x : Rule). rule_number x ≤ 39) (same_Some r rule is) (at_most_to (rule_number r) 39 (both_true (nat_le (rule_number r) 39) (tops xs) top).0))
 first_named ((r, false) ∷ xs) ys rule top rest is = first_named xs ys rule (both_true (nat_le (rule_number r) 39) (tops xs) top).1 rest is
 
-untrue_named : (untrue : Bool) (rule : Rule) → first_broken ((rules.SackUntrue, untrue) ∷ []) ≡ Some rule → MayName rule
-untrue_named true rule is = inr (sym (same_Some rules.SackUntrue rule is))
-untrue_named false rule is = absurd (none-some rule is)
+untrue_named : (untrue : Option Untruth) (rule : Rule) → first_broken (untrue_rules untrue) ≡ Some rule → MayName rule
+untrue_named None rule is = absurd (none-some rule is)
+untrue_named (Some untruth.Blocks) rule is = inr (inl (sym (same_Some rules.SackUntrue rule is)))
+untrue_named (Some untruth.Echo) rule is = inr (inr (inl (sym (same_Some rules.Echo rule is))))
+untrue_named (Some untruth.Clock) rule is = inr (inr (inr (sym (same_Some rules.ClockFalls rule is))))
 
 case_named : (h : Header) (k : Known) (o : Option (Stamped tcp_shape)) (rule : Rule) → h.slack ≡ None
     → first_broken (option_map_or (act_rules h k) o []) ≡ Some rule → MayName rule
 case_named h k None rule any is = absurd (none-some rule is)
 case_named h k (Some x) rule any is =
-    let untrue = untrue_at h k x.step in
+    let untrue = untrue_at h x.moment k x.step in
     let none = nothing_judged h x.moment k.duties untrue (shown h x.moment k x.step) any in
     first_named (model_rules h x.moment k x.step) (watch_rules h x.moment k x.step) rule (model_top h x.moment k x.step)
     (λ broken. untrue_named untrue rule (sym (ap first_broken none) ∙ broken)) is

@@ -1,4 +1,4 @@
--- With a greater slack, a yes stays a yes; with `any`, no duty is judged but that what is reported is true.
+-- With a greater slack, a yes stays a yes; with `any`, no duty is judged but that what a segment shows is true.
 use Rattle.std.specs.Prelude.{◌≡◌, ◌≤◌, ◌⊎◌, ℕ, Option, None}
 use Rattle.case_forms.specs.declared.steps.Witness.{Witness}
 use Rattle.case_forms.specs.declared.trace.Trace.{Trace}
@@ -22,8 +22,12 @@ pub record LessLateStaysYes (slack : Option ℕ) : Type 0 where
   pub yes : (t : Trace) (w : Witness) (lines hidden : ℕ) → AtMost t.header.slack slack
       → verdict t w ≡ Yes lines hidden → verdict (trace_with slack t) w ≡ Yes lines hidden
 
--- with `any`, a no names a rule of order or of the model, whose numbers are at most 39, or that a selective
--- acknowledgment isn't true
+-- what the line of a segment shows isn't true: its selective acknowledgment, the timestamp that it echoes, or its own
+abbrev pub IsUntrueLine : Rule → Type 0
+IsUntrueLine rule = (rule ≡ rules.SackUntrue) ⊎ (rule ≡ rules.Echo) ⊎ (rule ≡ rules.ClockFalls)
+
+-- with `any`, a no names a rule of order or of the model, whose numbers are at most 39, or that what the line of a
+-- segment shows isn't true
 abbrev pub AnyNamesNoDuty : Type 0
 AnyNamesNoDuty = (t : Trace) (w : Witness) (witness_line trace_line : ℕ) (rule : Rule) → t.header.slack ≡ None
-    → verdict t w ≡ No witness_line trace_line rule → (rule_number rule ≤ 39) ⊎ (rule ≡ rules.SackUntrue)
+    → verdict t w ≡ No witness_line trace_line rule → (rule_number rule ≤ 39) ⊎ IsUntrueLine rule

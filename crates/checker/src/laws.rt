@@ -67,7 +67,8 @@ pub fn less_late_stays_yes()
     ensures { (slack : Option ℕ) → LessLateStaysYes slack }
 {}
 
-/// With `slack any`, no verdict names a rule from 40 on: only the order of lines and the model are judged.
+/// With `slack any`, no verdict names a rule from 40 on but 53 to 55: beside the order of lines and the model, only
+/// what the lines of segments show is judged.
 pub fn any_names_no_duty()
     ensures { AnyNamesNoDuty }
 {}

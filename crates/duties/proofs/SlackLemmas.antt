@@ -1,5 +1,5 @@
 -- The slack: without one nothing is owed, and with a greater one more is accepted.
-use Rattle.std.proofs.Common.{◌≡◌, ℕ, suc, ◌≤◌, Bool, true, false, List, [], ◌∷◌, Option, None, Some, refl, ap, sym, subst, ◌∙◌, arith}
+use Rattle.std.proofs.Common.{◌≡◌, ℕ, suc, ◌≤◌, Bool, true, false, List, [], ◌∷◌, ◌++◌, Option, None, Some, refl, ap, sym, subst, ◌∙◌, arith}
 use Rattle.std.specs.Prelude.{not, ◌&&◌, ◌||◌, if◌then◌else◌, is_some}
 use Rattle.std.specs.Option.{option_map, option_map_or}
 use Rattle.case_forms.specs.States.{is_closed}
@@ -19,7 +19,7 @@ use Rattle.spec_network.specs.Tables.{Both, on, pick, waiting, with_host}
 use Rattle.spec_tcp.specs.Machine.{tcp_shape}
 use Rattle.spec_tcp.specs.declared.endpoint.Endpoint.{Endpoint}
 use Rattle.spec_duties.specs.Acknowledge.{acknowledge_due}
-use Rattle.spec_duties.specs.Answering.{Waits, answer_due, answer_since, answered_since, any_call, is_unanswered_late, owed_at_end}
+use Rattle.spec_duties.specs.Answering.{Waits, answer_due, answer_since, answered_since, any_call, is_answer_late, is_unanswered_late, owed_at_end}
 use Rattle.spec_duties.specs.declared.answering.CallChange.{CallChange}
 use Rattle.spec_duties.specs.declared.answering.OpenCall.{OpenCall}
 use Rattle.spec_flights.specs.Flights.{judges}
@@ -32,15 +32,16 @@ use Rattle.spec_duties.specs.End.{any_unsent, either, end_rules, first_waiting, 
 use Rattle.spec_duties.specs.Expire.{expiry_due}
 use Rattle.spec_duties.specs.Owed.{lates_of, lates_of_open, none_late}
 use Rattle.spec_duties.specs.Probe.{probing_due}
-use Rattle.spec_duties.specs.Resent.{judges_repeats}
 use Rattle.spec_duties.specs.Reset.{reset_since}
 use Rattle.spec_cases.specs.Slack.{AtMost, HasMoreCredits, LessLateIsMoreAccepted, NothingIsJudged, SlackIsHardlyNoted, AreInOrder, credits_left, with_slack}
+use Rattle.spec_duties.specs.Sampling.{is_sample_due}
 use Rattle.spec_duties.specs.Start.{start_due}
 use Rattle.spec_duties.specs.Strict.{brought_by, coarse_expiry_due, coarse_probing_due, strict_lates, with_brought}
 use Rattle.spec_duties.specs.Views.{view_of}
 use Rattle.spec_duties.specs.Watching.{Duties, built_by, counts_now, credits_after, credits_earned}
 use Rattle.spec_duties.specs.Watching.{credits_spent, duty_rules, judged_lates, lacks_credit}
-use Rattle.spec_duties.specs.Watching.{answer_rules, leaves_late, listener_closed, owed_by, sends_in_excess, sent_by, sent_late, strict_by, touched_rules}
+use Rattle.spec_duties.specs.Watching.{answer_rules, leaves_late, listener_closed, owed_by, sends_in_excess, sent_by, sent_late}
+use Rattle.spec_duties.specs.Watching.{strict_by, touched_rules, untrue_rules}
 use Rattle.spec_duties.specs.declared.answering.OpenCall.TheVariants as open_call
 use Rattle.spec_duties.specs.declared.owed.Lates.{Lates}
 use Rattle.spec_duties.specs.declared.owed.Owed.{Owed}
@@ -49,6 +50,7 @@ use Rattle.spec_duties.specs.declared.observations.InboxChange.TheVariants as in
 use Rattle.spec_duties.specs.declared.observations.Observation.{Observation}
 use Rattle.spec_duties.specs.declared.observations.Sampling.{Sampling}
 use Rattle.spec_duties.specs.declared.observations.TouchedEndpoint.{TouchedEndpoint}
+use Rattle.spec_duties.specs.declared.observations.Untruth.{Untruth}
 use Rattle.spec_duties.specs.declared.strict.StrictOwed.{StrictOwed}
 use Rattle.spec_duties.specs.declared.strict.Unsent.{Unsent}
 use Rattle.spec_duties.specs.declared.tables.Built.{Built}
@@ -56,10 +58,9 @@ use Rattle.spec_duties.specs.declared.views.View.{View}
 
 -- ---- without a slack
 
-pub nothing_judged : (h : Header) (moment : ℕ) (d : Duties) (untrue : Bool) (s : Observation) → h.slack ≡ None
-    → judged_rules h moment d untrue s ≡ (rules.SackUntrue, untrue) ∷ []
-nothing_judged h moment d untrue s any =
-    ap (λ o. on o ((rules.SackUntrue, untrue) ∷ []) (λ slack. duty_rules h slack moment d untrue s)) any
+pub nothing_judged : (h : Header) (moment : ℕ) (d : Duties) (untrue : Option Untruth) (s : Observation) → h.slack ≡ None
+    → judged_rules h moment d untrue s ≡ untrue_rules untrue
+nothing_judged h moment d untrue s any = ap (λ o. on o (untrue_rules untrue) (λ slack. duty_rules h slack moment d untrue s)) any
 
 -- nor does what is kept of data in flight refuse anything where it isn't judged: in versions 1 to 5
 pub not_judging : (h : Header) → says_sender h.version ≡ false → judges h ≡ false
@@ -82,20 +83,36 @@ refused_unjudged h moment k (network.At host d) none = at d
     at (network.Drops line) = refl
     at (network.Answers line) = refl
 
--- nor is it asked there whether what is reported is true
-pub unasked : (h : Header) (k : Known) (step : Step tcp_shape) → says_sender h.version ≡ false → untrue_at h k step ≡ false
-unasked h k (network.Begin line t call) old = refl
-unasked h k (network.Finish line t answer) old = refl
-unasked h k (network.Effect t answer) old = refl
-unasked h k (network.At host d) old = ap (λ (b : Bool). b && untrue_by k host d) old
+-- nor is it asked there whether what a segment shows is true
+pub unasked : (h : Header) (moment : ℕ) (k : Known) (step : Step tcp_shape) → says_sender h.version ≡ false → untrue_at h moment k step ≡ None
+unasked h moment k (network.Begin line t call) old = refl
+unasked h moment k (network.Finish line t answer) old = refl
+unasked h moment k (network.Effect t answer) old = refl
+unasked h moment k (network.At host d) old = at d
+  where
+    none : (blocks stamps : Option Untruth) (untrue : Bool)
+        → (if says_sender h.version && untrue then blocks else if says_sender h.version then stamps else None) ≡ None
+    none blocks stamps untrue =
+        ap (λ (b : Bool). if b && untrue then blocks else if b then stamps else None) old
+
+    at : (d : HostStep tcp_shape) → untrue_by h moment k host d ≡ None
+    at (network.Makes m) = refl
+    at (network.Does x) = refl
+    at (network.Expires line x) = refl
+    at (network.Sends line number wire) = none _ _ _
+    at (network.Gets line copied wire) = refl
+    at (network.Hears line wire) = refl
+    at (network.Takes line how) = refl
+    at (network.Drops line) = refl
+    at (network.Answers line) = refl
 
 pub dutiful_any : (h : Header) (k : Known) (xs : List (Stamped tcp_shape)) → h.slack ≡ None → judges h ≡ false → Dutiful h k xs
 dutiful_any h k [] any unjudged = tt
 dutiful_any h k (x ∷ xs) any unjudged = (
   record {
     duties =
-        ap first_broken (nothing_judged h x.moment k.duties (untrue_at h k x.step) (shown h x.moment k x.step) any)
-        ∙ ap (λ (b : Bool). first_broken ((rules.SackUntrue, b) ∷ [])) (unasked h k x.step unjudged);
+        ap first_broken (nothing_judged h x.moment k.duties (untrue_at h x.moment k x.step) (shown h x.moment k x.step) any)
+        ∙ ap (λ (u : Option Untruth). first_broken (untrue_rules u)) (unasked h x.moment k x.step unjudged);
     flights = refused_unjudged h x.moment k x.step unjudged;
   },
   dutiful_any h (known_after h x.moment k x.step) xs any unjudged,
@@ -121,6 +138,12 @@ fewer_none [] (y ∷ ys) f e = absurd f
 fewer_none (x ∷ xs) [] f e = absurd f
 fewer_none ((q, true) ∷ xs) ((r, b) ∷ ys) f e = absurd cc
 fewer_none ((q, false) ∷ xs) ((r, b) ∷ ys) f e = rw (f.0 refl) (fewer_none xs ys f.1 e)
+
+-- what a segment shows doesn't depend on it
+pub fewer_shown : (untrue : Option Untruth) (xs ys : List (Rule × Bool)) → AreFewer xs ys
+    → AreFewer (untrue_rules untrue ++ xs) (untrue_rules untrue ++ ys)
+fewer_shown None xs ys f = f
+fewer_shown (Some untruth) xs ys f = (λ e. e, f)
 
 late_less : (slack more moment : ℕ) (due : Option ℕ) → slack ≤ more → is_late slack moment due ≡ false → is_late more moment due ≡ false
 late_less slack more moment None le e = refl
@@ -300,52 +323,68 @@ excess_less h slack more d c sent t le left = by (says_sender h.version) sent
     by true None e = refl
     by true (Some u) e = lacks_less slack more d c t.host t.place u le left e
 
-touched_less : (h : Header) (slack more moment : ℕ) (d : Duties) (c : Both (List ℕ)) (counts untrue : Bool) (sent : Option Unsent) (s : Sampling)
-    (o : Option TouchedEndpoint) (change : CallChange)
+touched_less : (h : Header) (slack more moment : ℕ) (d : Duties) (c : Both (List ℕ)) (counts : Bool) (untrue : Option Untruth) (sent : Option Unsent)
+    (s : Sampling) (o : Option TouchedEndpoint) (change : CallChange)
     → slack ≤ more
     → AreMore d.credits c
     → AreFewer (on o (answer_rules slack moment d untrue change) (touched_rules (with_slack (Some slack) h) slack moment d counts untrue sent s))
     (on o (answer_rules more moment (with_credits c d) untrue change)
     (touched_rules (with_slack (Some more) h) more moment (with_credits c d) counts untrue sent s))
 touched_less h slack more moment d c counts untrue sent s None change le left =
-    (λ e. e, (late_less slack more moment (answer_due (answer_since d.waits change)) le, tt))
+    fewer_shown untrue ((rules.AnswerLate, is_answer_late slack moment d.waits change) ∷ [])
+    ((rules.AnswerLate, is_answer_late more moment d.waits change) ∷ [])
+    (late_less slack more moment (answer_due (answer_since d.waits change)) le, tt)
 touched_less h slack more moment d c counts untrue sent s (Some t) change le left =
     let l = judged_less h slack more moment d (brought_by sent) t.host t.place t.before le in
     let excess =
     or_less (is_excess counts (owed_by d t.host t.place).answers) (sends_in_excess (with_slack (Some slack) h) slack d sent t)
     (is_excess counts (owed_by d t.host t.place).answers) (sends_in_excess (with_slack (Some more) h) more (with_credits c d) sent t)
     (λ e. e) (excess_less h slack more d c sent t le left) in
-    (l.acknowledge, (l.expire, (l.retransmit, (l.probe, (l.start, (l.reset, (λ e. e, (λ e. e, (excess, (λ e. e, (λ e. e, tt)))))))))))
+    let due = is_sample_due s (strict_by d t.host t.place).timed in
+    let rest = fewer_shown untrue ((rules.SampleDue, due) ∷ []) ((rules.SampleDue, due) ∷ []) (λ e. e, tt) in
+    (l.acknowledge, (l.expire, (l.retransmit, (l.probe, (l.start, (l.reset, (λ e. e, (λ e. e, (excess, rest)))))))))
 
--- what is reported is true at a step that isn't refused
-reported_true : (h : Header) (slack moment : ℕ) (d : Duties) (untrue : Bool) (s : Observation)
-    → first_broken (duty_rules h slack moment d untrue s) ≡ None → untrue ≡ false
-reported_true h slack moment d untrue s none = by s.touched (none_all (duty_rules h slack moment d untrue s) none).1.1.1.1
+-- what a segment shows is true at a step that isn't refused
+abbrev NoneBroken : List (Rule × Bool) → Type 0
+NoneBroken = AllByRecursion (λ r. r.1 ≡ false)
+
+none_shown : (untrue : Option Untruth) (rest : List (Rule × Bool)) → NoneBroken (untrue_rules untrue ++ rest) → untrue ≡ None
+none_shown None rest all = refl
+none_shown (Some untruth) rest all = let is : true ≡ false = all.0 in absurd cc
+
+shown_true : (h : Header) (slack moment : ℕ) (d : Duties) (untrue : Option Untruth) (s : Observation)
+    → first_broken (duty_rules h slack moment d untrue s) ≡ None → untrue ≡ None
+shown_true h slack moment d untrue s none = by s.touched (none_all (duty_rules h slack moment d untrue s) none).1.1.1.1
   where
     by : (o : Option TouchedEndpoint)
-        → AllByRecursion (λ r. r.1 ≡ false) (on o (answer_rules slack moment d untrue s.call_change)
+        → NoneBroken (on o (answer_rules slack moment d untrue s.call_change)
         (touched_rules h slack moment d (counts_now (built_by d s.built_change)) untrue (sent_by d s.built_change) s.sampling))
-        → untrue ≡ false
-    by None all = all.0
-    by (Some t) all = all.1.1.1.1.1.1.1.1.1.0
+        → untrue ≡ None
+    by None all = none_shown untrue _ all
+    by (Some t) all = none_shown untrue _ all.1.1.1.1.1.1.1.1.1
 
 -- whether or not there is a slack
-pub truly_reported : (h : Header) (moment : ℕ) (d : Duties) (untrue : Bool) (s : Observation)
-    → first_broken (judged_rules h moment d untrue s) ≡ None → untrue ≡ false
-truly_reported h moment d untrue s = by h.slack
+pub truly_shown : (h : Header) (moment : ℕ) (d : Duties) (untrue : Option Untruth) (s : Observation)
+    → first_broken (judged_rules h moment d untrue s) ≡ None → untrue ≡ None
+truly_shown h moment d untrue s = by h.slack
   where
-    by : (slack : Option ℕ)
-        → first_broken (on slack ((rules.SackUntrue, untrue) ∷ []) (λ slack. duty_rules h slack moment d untrue s)) ≡ None → untrue ≡ false
-    by None e = (none_all ((rules.SackUntrue, untrue) ∷ []) e).0
-    by (Some slack) e = reported_true h slack moment d untrue s e
+    alone : (untrue : Option Untruth) → first_broken (untrue_rules untrue) ≡ None → untrue ≡ None
+    alone None e = refl
+    alone (Some untruth) e = absurd cc
 
-step_less : (less more : Option ℕ) → AtMost less more → (h : Header) (moment : ℕ) (d : Duties) (c : Both (List ℕ)) (untrue : Bool) (s : Observation)
+    by : (slack : Option ℕ)
+        → first_broken (on slack (untrue_rules untrue) (λ slack. duty_rules h slack moment d untrue s)) ≡ None → untrue ≡ None
+    by None e = alone untrue e
+    by (Some slack) e = shown_true h slack moment d untrue s e
+
+step_less : (less more : Option ℕ) → AtMost less more → (h : Header) (moment : ℕ) (d : Duties) (c : Both (List ℕ)) (untrue : Option Untruth)
+    (s : Observation)
     → AreMore d.credits c
     → first_broken (judged_rules (with_slack less h) moment d untrue s) ≡ None
     → first_broken (judged_rules (with_slack more h) moment (with_credits c d) untrue s) ≡ None
 step_less None None at h moment d c untrue s left e = e
 step_less (Some slack) None at h moment d c untrue s left e =
-    ap (λ (b : Bool). first_broken ((rules.SackUntrue, b) ∷ [])) (reported_true (with_slack (Some slack) h) slack moment d untrue s e)
+    ap (λ (u : Option Untruth). first_broken (untrue_rules u)) (shown_true (with_slack (Some slack) h) slack moment d untrue s e)
 step_less None (Some more) at h moment d c untrue s left e = absurd at
 step_less (Some slack) (Some more) at h moment d c untrue s left e =
     fewer_none (duty_rules (with_slack (Some slack) h) slack moment d untrue s)
@@ -487,12 +526,12 @@ less_late less more at = record {
 -- ---- what is kept
 
 -- no acknowledgment lacked a credit
-none_lacks : (h : Header) (slack moment : ℕ) (d : Duties) (untrue : Bool) (s : Observation) (t : TouchedEndpoint) → s.touched ≡ Some t
+none_lacks : (h : Header) (slack moment : ℕ) (d : Duties) (untrue : Option Untruth) (s : Observation) (t : TouchedEndpoint) → s.touched ≡ Some t
     → first_broken (duty_rules h slack moment d untrue s) ≡ None → sends_in_excess h slack d (sent_by d s.built_change) t ≡ false
 none_lacks h slack moment d untrue s t shows none =
     let rules = (none_all (duty_rules h slack moment d untrue s) none).1.1.1.1 in
     let here =
-    subst (λ (o : Option TouchedEndpoint). AllByRecursion (λ r. r.1 ≡ false) (on o (answer_rules slack moment d untrue s.call_change)
+    subst (λ (o : Option TouchedEndpoint). NoneBroken (on o (answer_rules slack moment d untrue s.call_change)
     (touched_rules h slack moment d (counts_now (built_by d s.built_change)) untrue (sent_by d s.built_change) s.sampling))) shows rules in
     second (is_excess (counts_now (built_by d s.built_change)) (owed_by d t.host t.place).answers) _ here.1.1.1.1.1.1.1.1.0
   where
@@ -579,7 +618,7 @@ module _ (h : Header) (less more moment : ℕ) (s : Observation) (d : Duties) (c
       written_order c t.host _ order
       (earned_order s.earns moment t.place _ (spent_order more t.place (sent_by d s.built_change) (pick c t.host) (order t.host)))
 
-  hardly_noted : (w : World tcp_shape) (untrue : Bool) → first_broken (judged_rules (with_slack (Some less) h) moment d untrue s) ≡ None
+  hardly_noted : (w : World tcp_shape) (untrue : Option Untruth) → first_broken (judged_rules (with_slack (Some less) h) moment d untrue s) ≡ None
       → HasMoreCredits (noted_by (with_slack (Some less) h) moment w s d) (noted_by (with_slack (Some more) h) moment w s (with_credits c d))
   hardly_noted w untrue none = record {
     same = refl;

@@ -55,6 +55,6 @@ pub use owed::{admits_lates, either, lates_of, none_late};
 pub use probe::probing_due;
 pub use reset::reset_since;
 pub use start::start_due;
-pub use steps::Duties;
+pub use steps::{Duties, rule_of};
 pub use strict::{coarse_expiry_due, coarse_probing_due, with_brought};
 pub use views::{unborn, view_of};

@@ -15,7 +15,7 @@ ghost use Rattle.spec_duties.specs.Watching.{drops_needed, duties_after, duty_ru
 ghost use Rattle.spec_duties.specs.Watching.{is_droppable};
 ghost use Rattle.spec_duties.specs.Watching.{joined, leaves_late, left, limit_rules, listener_closed, listening_after};
 ghost use Rattle.spec_duties.specs.Watching.{listening_at, moved, moved_by, new_listening, owed_by, owed_table_after};
-ghost use Rattle.spec_duties.specs.Watching.{queued, sent_late, start, touched_rules};
+ghost use Rattle.spec_duties.specs.Watching.{queued, rule_of, sent_late, start, touched_rules};
 
 mod answers;
 mod strict;
@@ -31,7 +31,7 @@ use crate::strict_tables::StrictTables;
 use case_forms::{Header, Host, OutOfMemory};
 use spec_duties::{
     Built, BuiltChange, Droppable, Dropping, Event, InboxChange, Lates, Listening, Observation,
-    Owed, Queueing, TouchedEndpoint, View,
+    Owed, Queueing, TouchedEndpoint, Untruth, View,
 };
 use spec_tcp::EndpointId;
 use std::alloc::Global;
@@ -263,15 +263,15 @@ impl Duties {
         }
     }
 
-    /// Whether no duty refuses a step, with this slack in microseconds. `untrue`: it sends a selective acknowledgment
-    /// that isn't true. The error is the first broken rule.
+    /// Whether no duty refuses a step, with this slack in microseconds. `untrue`: what the line of a segment shows that
+    /// may not be. The error is the first broken rule.
     #[inline(always)]
     pub fn admits(
         &self,
         header: &Header,
         slack: u64,
         moment: u64,
-        untrue: bool,
+        untrue: Option<Untruth>,
         seen: &Observation,
     ) -> Result<(), Rule>
         ensures { result_err result ≡ first_broken (duty_rules header.now slack moment self.now untrue seen.now) }
@@ -297,6 +297,18 @@ impl Duties {
             }
             None => self.admits_answer(slack, moment, untrue, seen.call_change),
         }
+    }
+}
+
+/// The rule that the line of a segment breaks by what it shows.
+#[inline(always)]
+pub fn rule_of(untruth: Untruth) -> Rule
+    ensures { result ≡ rule_of untruth }
+{
+    match untruth {
+        Untruth::Blocks => Rule::SackUntrue,
+        Untruth::Echo => Rule::Echo,
+        Untruth::Clock => Rule::ClockFalls,
     }
 }
 
@@ -333,11 +345,11 @@ fn counts_now(built: Option<Built>) -> bool
     }
 }
 
-// What a step sends: a mere acknowledgment; a selective one that isn't true.
+// What a step sends: a mere acknowledgment; a segment whose line shows what may not be.
 #[derive(Clone, Copy)]
 struct Sends {
     counts: bool,
-    untrue: bool,
+    untrue: Option<Untruth>,
 }
 
 // What a step does too much of, or not at all: what it sends; it sends an acknowledgment without a credit; it makes no
@@ -371,8 +383,8 @@ fn admits_limits(
     if is_excess(limited.sends.counts, owed.answers) || limited.lacks {
         return Err(Rule::AckExcess);
     }
-    if limited.sends.untrue {
-        return Err(Rule::SackUntrue);
+    if let Some(untruth) = limited.sends.untrue {
+        return Err(rule_of(untruth));
     }
     if limited.due {
         return Err(Rule::SampleDue);

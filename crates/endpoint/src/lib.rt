@@ -35,6 +35,7 @@ pub use calls::close::{abort, close, orphan, shut};
 pub use calls::endpoint_allows;
 pub use calls::receive::deliver;
 pub use calls::send::send;
+pub use makes::edges::raised_at;
 pub use makes::{admits_making, make};
 pub use recovery::{admits_recovery, greatest_at_recovery, greatest_recovery, recover};
 pub use reset::reset_of;

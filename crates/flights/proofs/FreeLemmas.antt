@@ -17,7 +17,7 @@ use Rattle.streams.proofs.FlyingLemmas.{positions_parts}
 use Rattle.streams.proofs.MarkLemmas.{or_true}
 use Rattle.streams.proofs.RangeLemmas.{all_counted, counted_all, covers_each, not_counted}
 use Rattle.spec_flights.specs.Flights.{Flight, is_free, is_marked}
-use Rattle.flights.proofs.SetLemmas.{read_back}
+use Rattle.flight_parts.proofs.SetLemmas.{read_back}
 
 and_false : (a b : Bool) → b ≡ false → (a && b) ≡ false
 and_false true b is = is

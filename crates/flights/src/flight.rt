@@ -7,31 +7,29 @@ ghost use Rattle.spec_flights.specs.Flights.{broken_at, finds_lost, flight_after
 ghost use Rattle.spec_flights.specs.Flights.{marks_oldest, may_be_probed, may_begin};
 ghost use Rattle.spec_flights.specs.Flights.{probe_broken, rescued_after, unflown, uses_rescue};
 ghost use Rattle.spec_flights.specs.Held.{is_untrue};
-ghost use Rattle.spec_flights.specs.Marks.{goes_again, marks_after};
+ghost use Rattle.spec_flights.specs.Marks.{marks_after};
 
-use crate::clocks::{clocks_after, no_clocks};
-use crate::delivered::{read_reports, remove_reports};
-use crate::held::{is_untrue, note_held};
-use crate::marks::{is_fin_alone, making_length, marked_by, old_part, taken_by};
-use crate::probing::{is_early_probe, is_none, not_probing, probing_after};
-use crate::recovering::{is_recovering, is_repairing, none_begun, recovery_after};
-use crate::scoreboard::{Scoreboard, number_built};
-use crate::sides::{are_selective, neither, sides_after};
-use crate::steps::Now;
-use crate::undoing::needed;
 use case_forms::{OutOfMemory, RecoveryChange, SegmentPlan, Timer};
+use flight_parts::{
+    are_selective, clocks_after, goes_again, is_early_probe, is_none, is_recovering, is_repairing,
+    is_untrue, marked_by, needed, neither, no_clocks, none_begun, not_probing, note_echoes,
+    note_held, number_built, old_part, probing_after, read_reports, recovery_after, remove_reports,
+    sides_after, taken_by,
+};
+use scoreboard::{Now, Scoreboard};
 use seqno::Word;
 use spec_duties::{Event, Observation, SynChange, TouchedEndpoint, View};
-use spec_flights::{Clocks, Probing, Recovery, Reports, Sides, Undoing};
+use spec_flights::{Clocks, Echoable, Probing, Recovery, Reports, Sides, Undoing};
 use std::alloc::Global;
 use std::marker::Model;
 use streams::Ranges;
+use tables::Table;
 use verdict::Rule;
 
 /// What is kept of an endpoint: what the two SYNs permit, from which loss it recovers, which positions are marked, what
 /// is known of each outstanding one, whether it made use of a rescue since the recovery began, how far a probe for a
-/// loss is, whether the recovery was needed, and what is known of timestamps; and which positions of its peer's stream
-/// it holds beyond what is next in order.
+/// loss is, whether the recovery was needed, what is known of timestamps, and which of them each segment may echo that
+/// it built; and which positions of its peer's stream it holds beyond what is next in order.
 #[derive(Drop)]
 pub(crate) struct Flight {
     pub(crate) sides: Sides,
@@ -42,14 +40,8 @@ pub(crate) struct Flight {
     pub(crate) probing: Probing,
     pub(crate) undoing: Undoing,
     pub(crate) clocks: Clocks,
+    pub(crate) echoes: Table<Option<Echoable>>,
     pub(crate) held: Ranges,
-}
-
-/// Whether it holds positions that were sent before, and isn't a FIN without bytes.
-pub(crate) fn goes_again(v: &View, plan: &SegmentPlan) -> bool
-    ensures { result ≡ goes_again v.now plan.now }
-{
-    0 < making_length(plan) && plan.pos < v.snd_max && !is_fin_alone(plan, v)
 }
 
 impl Model for Flight {
@@ -67,6 +59,7 @@ impl Model for Flight {
       probing = a.probing;
       undoing = a.undoing;
       clocks = a.clocks;
+      echoes = a.echoes.entries;
       held = items a.held;
     } };
 }
@@ -85,6 +78,7 @@ impl Flight {
             probing: not_probing(),
             undoing: needed(),
             clocks: no_clocks(),
+            echoes: Table::new(alloc),
             held: Ranges::new(alloc),
         }
     }
@@ -277,6 +271,7 @@ impl Flight {
         self.board
             .note(now, number_built(seen.built_change), touched, after, &r)?;
         note_held(&mut self.held, seen.kept, after.rcv_nxt)?;
+        note_echoes(&mut self.echoes, seen, &touched.event, self.clocks)?;
         self.sides = sides;
         self.recovery = recovery;
         let before = &touched.before;

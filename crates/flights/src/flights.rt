@@ -5,19 +5,20 @@ ghost use Rattle.std.specs.Map.{lookup};
 ghost use Rattle.indexmap.specs.IndexMap.{insert_entry};
 ghost use Rattle.spec_network.specs.Tables.{on, pick};
 ghost use Rattle.spec_flights.specs.Clocks.{excused_at};
+ghost use Rattle.spec_flights.specs.Echoes.{mistimed_by};
 ghost use Rattle.spec_flights.specs.Flights as spec;
 ghost use Rattle.spec_flights.specs.Flights.{broken_at, excused, flight_after, flight_at, flights_after};
-ghost use Rattle.spec_flights.specs.Flights.{flights_touched, refusal, sends_untrue, start, unflown};
+ghost use Rattle.spec_flights.specs.Flights.{flights_touched, mistimed, refusal, sends_untrue, start, unflown};
+ghost use Rattle.spec_flights.specs.Sides.{are_selective};
 ghost use Rattle.spec_duties.specs.Resent.{judges_repeats};
 
-use crate::clocks::{excused_at, no_clocks};
 use crate::flight::Flight;
-use crate::held::{Untrue, why_untrue};
 use crate::probe_standing::ProbeStanding;
 use crate::standing::Standing;
 use case_forms::{Header, Host, Judged, OutOfMemory};
-use spec_duties::{Observation, TouchedEndpoint, View};
-use spec_flights::Clocks;
+use flight_parts::{Untrue, are_selective, excused_at, mistimed_by, no_clocks, why_untrue};
+use spec_duties::{Observation, TouchedEndpoint, Untruth, View};
+use spec_flights::{Clocks, Echoable};
 use spec_tcp::{Endpoint, EndpointId};
 use std::alloc::Global;
 use std::marker::Model;
@@ -188,8 +189,38 @@ impl Flights {
         }
     }
 
-    // What is known of timestamps at an endpoint.
-    fn clocks_at(&self, host: Host, place: u32) -> Clocks
+    /// What the line of a segment shows of timestamps that may not be, if a step is one: it doesn't echo what it has
+    /// to, or its own is older than one that was built before. In versions 1 to 5 all may be.
+    #[inline(always)]
+    pub fn mistimed(&self, header: &Header, seen: &Observation) -> Option<Untruth>
+        ensures { result ≡ mistimed header.now self.now seen.now }
+    {
+        if !header.version.says_sender() {
+            return None;
+        }
+        match &seen.touched {
+            Some(touched) => self.mistimed_by(touched, seen),
+            None => None,
+        }
+    }
+
+    // The same of a step at an endpoint.
+    fn mistimed_by(&self, touched: &TouchedEndpoint, seen: &Observation) -> Option<Untruth>
+        ensures { result ≡ mistimed_by seen.now touched.now.event
+            (flight_at self.now touched.now.host touched.now.place).clocks
+            (flight_at self.now touched.now.host touched.now.place).echoes }
+    {
+        if let Some(tables) = &self.tables {
+            if let Some(flight) = tables.get(touched.host).get(u64::from(touched.place)) {
+                return mistimed_by(seen, &touched.event, flight.clocks, &flight.echoes);
+            }
+        }
+        let flight = Flight::new(self.alloc);
+        mistimed_by(seen, &touched.event, flight.clocks, &flight.echoes)
+    }
+
+    /// What is known of timestamps at the endpoint at this place.
+    pub fn clocks_at(&self, host: Host, place: u32) -> Clocks
         ensures { result ≡ (flight_at self.now host place).clocks }
     {
         if let Some(tables) = &self.tables {
@@ -223,6 +254,18 @@ impl Flights {
             Some(touched) => self.excused_by(touched, seen),
             None => *seen,
         }
+    }
+
+    /// Whether both SYNs of the endpoint at this place permitted selective acknowledgments.
+    pub fn is_selective(&self, host: Host, place: u32) -> bool
+        ensures { result ≡ are_selective (flight_at self.now host place).sides }
+    {
+        if let Some(tables) = &self.tables {
+            if let Some(flight) = tables.get(host).get(u64::from(place)) {
+                return are_selective(flight.sides);
+            }
+        }
+        false
     }
 
     /// Whether the last recovery of the endpoint at this place wasn't needed, so that it may be undone.
@@ -260,6 +303,16 @@ impl Flights {
             }
         }
         Some(Untrue::NotPermitted)
+    }
+
+    /// Which timestamps the segment of this number may echo, if an endpoint built it and it wasn't sent yet. None: that
+    /// isn't known.
+    pub fn echoable(&self, id: EndpointId, number: u32) -> Option<Echoable> {
+        let Some(tables) = &self.tables else {
+            return None;
+        };
+        let flight = tables.get(id.host).get(u64::from(id.number))?;
+        *flight.echoes.get(u64::from(number))?
     }
 
     /// What an endpoint knows of losses at a step that is refused at this moment, in microseconds. None: the step isn't

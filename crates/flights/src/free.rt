@@ -9,12 +9,10 @@ ghost use Rattle.spec_flights.specs.Flights.{are_free, free_below, is_free, is_m
 ghost use Rattle.spec_flights.specs.Flights.{may_go_again, recovers_selectively, sends_nothing_new};
 
 use crate::flight::Flight;
-use crate::late::after;
-use crate::marks::{making_length, old_part};
-use crate::probing::is_due;
-use crate::recovering::{is_recovering, is_repairing};
-use crate::sides::are_selective;
 use case_forms::SegmentPlan;
+use flight_parts::{
+    are_selective, is_due, is_recovering, is_repairing, making_length, number_after, old_part,
+};
 use spec_duties::View;
 use spec_flights::Stretch;
 use streams::next_run;
@@ -48,7 +46,7 @@ impl Flight {
         if self.recovers_selectively(v) {
             self.board.resent_below(true, clock)
         } else {
-            after(self.board.given_up)
+            number_after(self.board.given_up)
         }
     }
 

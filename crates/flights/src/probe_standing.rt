@@ -1,9 +1,7 @@
 //! What keeps an endpoint from probing for a loss, to explain a step that is refused.
 
 use crate::flight::Flight;
-use crate::probing::{probe_moment, probe_timeout};
-use crate::recovering::is_recovering;
-use crate::sides::are_selective;
+use flight_parts::{are_selective, is_recovering, probe_moment, probe_timeout};
 use spec_duties::View;
 use spec_flights::Probe;
 

@@ -196,7 +196,7 @@ highest of all traces.";
 const REMARK: &str = "\
 Input: a case. Output: a line for each remark, with the trace lines that it is about. For a no, only
 the steps before the refused one count. Remarks are about acceptable segments that were dropped or
-not kept, retransmissions, acknowledgments that nothing asked for, timers and open windows with
-nothing sent, a SYN given up too early, and what is left at the end.
+not kept, retransmissions, acknowledgments that nothing asked for, SACK blocks that should be sent,
+timers and open windows with nothing sent, a SYN given up too early, and what is left at the end.
 
 Status: 0 if there is no remark, 1 if there is any.";

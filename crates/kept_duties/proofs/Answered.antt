@@ -413,43 +413,44 @@ module _ (t : Trace) (w : Witness) (slack : ℕ) (given : t.header.slack ≡ Som
         let early = b.early in
         inr (inr (omega (arith, fine, early)))
 
-    -- from what is received
-    answered : (length' : ℕ) → (observe t.header x.moment (known i).model x.step).touched ≡ Some (touched (known i).model me (Processes length' false))
-        → 0 < length' → receives (seen (known i).model me).state ≡ true → IsAnsweredBy t w i end_by me ⊎ Closes ⊎ EndsBy w end_by
-    answered length' shows some open' = test (closed_at (suc i)) refl
+    -- from an event by which the endpoint owes one
+    pub answered_from : (event : Event) → (observe t.header x.moment (known i).model x.step).touched ≡ Some (touched (known i).model me event)
+        → (since : ℕ) → owed_at (suc i) ≡ Some since → IsAnsweredBy t w i end_by me ⊎ Closes ⊎ EndsBy w end_by
+    answered_from event shows since owes = test (closed_at (suc i)) refl
       where
         goes_here' : Goes t.header slack (known i) (known (suc i)) x
         goes_here' = goes_of t w slack r i x here
 
-        owes : (since : ℕ) × (owed_at (suc i) ≡ Some since)
-        owes =
-            let q = ack_begins (observe t.header x.moment (known i).model x.step).sampling (goes_here'.sees.judge (Processes length' false)) length'
-            (goes_here'.sees.alike (Processes length' false)) (seen (known i).model me) (seen (known (suc i)).model me) x.moment
-            (owed_by (known i).duties me.host me.number).acknowledged
-            (sent_by (known i).duties (observe t.header x.moment (known i).model x.step).built_change) (strict_by (known i).duties me.host me.number)
-            some open' in (
-              q.0,
-              ap (λ (s : StrictOwed). s.acknowledge)
-                  (strict_touched t.header slack (known i) (known (suc i)) x me goes_here' six (Processes length' false) shows) ∙ q.1,
-            )
-
         there : (e : Endpoint) × (find (known (suc i)).model.hosts me ≡ Some e)
         there =
-            let e = there_after t.header x.moment (known i).model x.step me (Processes length' false)
+            let e = there_after t.header x.moment (known i).model x.step me event
             (steady_at t w slack r placed i (let low = within t w i x here in omega (arith, low))) goes_here'.permitted shows in
             (e.0, ap (λ (v : World tcp_shape). find v.hosts me) goes_here'.model ∙ e.1)
 
-        early : owes.0 ≤ x.moment
+        early : since ≤ x.moment
         early =
-            began_low t w placed i x here owes.0
-            (ack_began t w slack r six (suc i) (let low = within t w i x here in omega (arith, low)) me owes.0 owes.1)
+            began_low t w placed i x here since
+            (ack_began t w slack r six (suc i) (let low = within t w i x here in omega (arith, low)) me since owes)
 
         test : (c : Bool) → closed_at (suc i) ≡ c → IsAnsweredBy t w i end_by me ⊎ Closes ⊎ EndsBy w end_by
         test true closed =
             inr (inl (becomes t w slack r placed me (λ v. is_closed v.state) i end_by i x (omega arith) (λ less. absurd (omega (arith, less))) here closed
             (λ event shows. omega arith)))
         test false open' =
-            at_end (to_end (inr (inr (inl (record { since = owes.0; early = early; owes = owes.1; open' = open'; there = there })))))
+            at_end (to_end (inr (inr (inl (record { since = since; early = early; owes = owes; open' = open'; there = there })))))
+
+    -- from what is received
+    answered : (length' : ℕ) → (observe t.header x.moment (known i).model x.step).touched ≡ Some (touched (known i).model me (Processes length' false))
+        → 0 < length' → receives (seen (known i).model me).state ≡ true → IsAnsweredBy t w i end_by me ⊎ Closes ⊎ EndsBy w end_by
+    answered length' shows some open' =
+        let goes = goes_of t w slack r i x here in
+        let q = ack_begins (observe t.header x.moment (known i).model x.step).sampling (goes.sees.judge (Processes length' false)) length'
+        (goes.sees.alike (Processes length' false)) (seen (known i).model me) (seen (known (suc i)).model me) x.moment
+        (owed_by (known i).duties me.host me.number).acknowledged
+        (sent_by (known i).duties (observe t.header x.moment (known i).model x.step).built_change) (strict_by (known i).duties me.host me.number)
+        some open' in
+        answered_from (Processes length' false) shows q.0 (ap (λ (s : StrictOwed). s.acknowledge)
+        (strict_touched t.header slack (known i) (known (suc i)) x me goes six (Processes length' false) shows) ∙ q.1)
 
   pub receipts_answered_after : ReceiptsAreAnsweredAfter t w slack
   receipts_answered_after place moment length' me a some ended =

@@ -55,7 +55,7 @@ use Rattle.kept_duties.proofs.Touched.{Touches, seen, touched, touches_or_not}
 -- ---- what asks
 
 -- the test that duties make, of its parts
-abbrev asks_by : (old_numbers syn_sent rst ack next : Bool) → Option Rule → Bool
+abbrev pub asks_by : (old_numbers syn_sent rst ack next : Bool) → Option Rule → Bool
 asks_by old_numbers syn_sent rst ack next breaks =
     not syn_sent
     && (if rst then not (is_some breaks) && (rst && not syn_sent && not next)
@@ -67,7 +67,7 @@ not_next e m other =
     let f = map_or_true e.irs (λ irs. same_word m.seq (number_of irs (rcv_nxt e))) is in
     other (f.0, f.1, f.2))
 
-asks_is : (old_numbers : Bool) (breaks : Option Rule) (e : Endpoint) (m : Emission) → is_syn_sent e.state ≡ false → Asks breaks e m
+pub asks_is : (old_numbers : Bool) (breaks : Option Rule) (e : Endpoint) (m : Emission) → is_syn_sent e.state ≡ false → Asks breaks e m
     → asks old_numbers m breaks e ≡ true
 asks_is old breaks e m sent (IsUnacceptable rst is) = λ i. asks_by old (sent i) (rst i) m.flags.ack (is_next e m) (is i)
 asks_is old breaks e m sent (AcknowledgesUnsent rst ack is) = λ i. asks_by old (sent i) (rst i) (ack i) (is_next e m) (is i)
@@ -164,7 +164,7 @@ module _ (t : Trace) (w : Witness) (slack : ℕ) (r : Run t.header slack (length
             (owed_by (known_before t w j).duties me.host me.number)) ∙ now)
 
     -- none was sent lately
-    not_lately : (place moment : ℕ) → place ≤ length w.steps → SentNoneLately t w place moment me
+    pub not_lately : (place moment : ℕ) → place ≤ length w.steps → SentNoneLately t w place moment me
         → answered_lately moment (owed_by (known_before t w place).duties me.host me.number).acknowledged ≡ false
     not_lately place moment high none = by (owed_by (known_before t w place).duties me.host me.number).acknowledged (sent_at place high)
       where

@@ -43,7 +43,7 @@ use Rattle.spec_tcp_laws.specs.Consequences.{find}
 use Rattle.spec_tcp_laws.proofs.Rules.{both_true, host_same, is_not, map_or_true, number_same}
 use Rattle.spec_tcp_laws.proofs.Runs.{later_step}
 use Rattle.spec_cases.specs.Cases.{Dutiful, Known, first_known}
-use Rattle.spec_duties.specs.Arrivals.{stamps_read}
+use Rattle.spec_duties.specs.Arrivals.{acked_sent, stamps_read}
 use Rattle.spec_duties.specs.Excess.{answers_after, is_arrival, is_excess, is_listen, is_mere_ack, one_more}
 use Rattle.spec_duties.specs.Owed.{once_closed, owed_after, owed_open}
 use Rattle.spec_duties.specs.Observations.{at_place, at_sender, sending_of, observe, syn_sent, unseen, view_in}
@@ -153,6 +153,7 @@ sending_shows h moment v (At g (Sends line k wire)) host n m e there =
         built_change = built_change.Sends k;
         syn_change = syn_sent h.version m.emission wire.bytes;
         stamps = stamps_read h.version wire.bytes;
+        acked = acked_sent h.version wire m.emission;
       })).touched) at
           ∙ ap (λ (x : Host). at_sender x (pick v.hosts x).body wire m.emission) same.0,
     )

@@ -69,6 +69,14 @@ answers_not true unacceptable e = inl refl
 answers_not false true e = inr refl
 answers_not false false e = absurd cc
 
+pub some_if : {X : Type 0} (b : Bool) (x : X) → is_some (if b then Some x else None) ≡ true → b ≡ true
+some_if true x e = refl
+some_if false x e = absurd cc
+
+pub absent : {X : Type 0} (o : Option X) → not (is_some o) ≡ true → o ≡ None
+absent None e = refl
+absent (Some x) e = absurd cc
+
 unacceptable_is : (o : Option Rule) → is_unacceptable o ≡ true → o ≡ Some rules.Unacceptable
 unacceptable_is (Some rules.Unacceptable) e = refl
 unacceptable_is o e = absurd cc
@@ -205,14 +213,6 @@ module _ (t : Trace) (w : Witness) (slack : ℕ) (r : Run t.header slack (length
 
     abbrev older : Clocks → TimestampPair → Bool
     older c stamps = option_map_or (is_older stamps.value) c.most false
-
-    some_if : {X : Type 0} (b : Bool) (x : X) → is_some (if b then Some x else None) ≡ true → b ≡ true
-    some_if true x e = refl
-    some_if false x e = absurd cc
-
-    absent : (o : Option TimestampPair) → not (is_some o) ≡ true → o ≡ None
-    absent None e = refl
-    absent (Some stamps) e = absurd cc
 
     -- of the endpoint at this place
     fails_there : (i : ℕ) (e : Endpoint) (m : Emission) → taker (host_before t w place host) m ≡ AtEndpoint i e

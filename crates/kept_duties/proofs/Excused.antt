@@ -25,6 +25,7 @@ use Rattle.spec_duties.specs.declared.observations.Observation.{Observation}
 use Rattle.spec_duties.specs.declared.observations.Queueing.{Queueing}
 use Rattle.spec_duties.specs.declared.observations.Sampling.{Sampling}
 use Rattle.spec_duties.specs.declared.observations.TouchedEndpoint.{TouchedEndpoint}
+use Rattle.spec_duties.specs.declared.observations.Untruth.{Untruth}
 use Rattle.spec_duties.specs.declared.owed.Owed.{Owed}
 use Rattle.spec_duties.specs.declared.strict.Unsent.{Unsent}
 use Rattle.spec_duties.specs.declared.tables.Built.{Built}
@@ -180,8 +181,8 @@ module _ (judge : Event → Event) (alike : (event : Event) → AsSeen event (ju
   listening_seen w moment (Some t) q both = refl
 
   -- nor of the rules of the endpoint
-  pub rules_seen : (h : Header) (slack moment : ℕ) (d : Duties) (counts untrue : Bool) (sent : Option Unsent) (s : Sampling) (change : CallChange)
-      (o : Option TouchedEndpoint)
+  pub rules_seen : (h : Header) (slack moment : ℕ) (d : Duties) (counts : Bool) (untrue : Option Untruth) (sent : Option Unsent) (s : Sampling)
+      (change : CallChange) (o : Option TouchedEndpoint)
       → AllByRecursion (λ r. r.1 ≡ false) (on (judged_by judge o) (answer_rules slack moment d untrue change)
       (touched_rules h slack moment d counts untrue sent s))
       → AllByRecursion (λ r. r.1 ≡ false) (on o (answer_rules slack moment d untrue change) (touched_rules h slack moment d counts untrue sent s))

@@ -1,5 +1,5 @@
 -- What the definitions say of a few steps.
-use Rattle.std.proofs.Common.{◌≡◌, ℕ, inl, inr, true, false, [], ◌∷◌, None, Some, refl, arith}
+use Rattle.std.proofs.Common.{◌≡◌, ◌≤◌, ℕ, inl, inr, true, false, [], ◌∷◌, None, Some, refl, arith}
 use Rattle.std.specs.Prelude.{◌==◌}
 use Rattle.case_forms.specs.declared.timer.RecoveryChange.TheVariants as change
 use Rattle.case_forms.specs.declared.calls.Host.TheVariants.{Zero, One}
@@ -13,11 +13,12 @@ use Rattle.case_forms.specs.declared.steps.TakeChoice.{TakeChoice}
 use Rattle.case_forms.specs.declared.steps.Witness.{Witness}
 use Rattle.case_forms.specs.declared.timer.Timer.TheVariants.{Persist}
 use Rattle.case_forms.specs.declared.trace.Event.TheVariants as events
+use Rattle.case_forms.specs.declared.trace.Header.{Header}
 use Rattle.case_forms.specs.declared.trace.Trace.{Trace}
 use Rattle.case_forms.specs.declared.trace.Wire.{Wire}
 use Rattle.case_forms.specs.declared.version.Initial.TheVariants.{Rfc5681}
 use Rattle.case_forms.specs.declared.version.Judged.TheVariants.{Full}
-use Rattle.case_forms.specs.declared.version.Version.TheVariants.{Five}
+use Rattle.case_forms.specs.declared.version.Version.TheVariants.{Five, Six}
 use Rattle.case_forms.specs.declared.version.Growth.TheVariants.{OneSegment}
 use Rattle.case_forms.specs.declared.version.Sender.TheVariants.{Reno}
 use Rattle.spec_duties.specs.Views.{unborn}
@@ -26,14 +27,14 @@ use Rattle.spec_duties.specs.declared.observations.TouchedEndpoint.{TouchedEndpo
 use Rattle.spec_duties.specs.declared.views.View.{View}
 use Rattle.checker.specs.Again.{nowhere}
 use Rattle.kept_duties.specs.Counts.{builds_mere, count_before, event_for, sent_by}
-use Rattle.kept_duties.specs.Expiries.{runs_on, runs_since}
+use Rattle.kept_duties.specs.Expiries.{BuildsOldest, run_time, runs_on, runs_since}
 use Rattle.kept_duties.specs.Made.{IsSentBy}
 use Rattle.kept_duties.specs.Places.{ArrivesAt, BuildsAt, IsProcessed, SendsAt, built_before}
 use Rattle.kept_duties.specs.Probes.{probe_time, probes_after}
 use Rattle.kept_duties.specs.Repeats.{again_end, begins}
 use Rattle.kept_duties.specs.Resets.{SendsReset, awaits_reset}
 use Rattle.kept_duties.specs.Segments.{EndsBy, IsBuiltBefore, LeavesBy}
-use Rattle.kept_duties.specs.Soon.{Answers, IsIdle, SendsOldest}
+use Rattle.kept_duties.specs.Soon.{Answers, IsIdle, SendsOldest, SendsProbe}
 
 -- an empty acknowledgment, and three bytes
 abbrev ack : SegmentPlan
@@ -70,22 +71,25 @@ facts_witness = record {
       ∷ [];
 }
 
+abbrev facts_header : Header
+facts_header = record {
+  version = Five;
+  skew = 0;
+  msl = 120000000;
+  grain = 1000;
+  minrto = 1000000;
+  extra = 0;
+  initial = Rfc5681;
+  congestion = Full;
+  slack = Some 30;
+  sender = Reno;
+  growth = OneSegment;
+}
+
 module _ (wire : Wire) where
   abbrev facts_trace : Trace
   facts_trace = record {
-    header = record {
-      version = Five;
-      skew = 0;
-      msl = 120000000;
-      grain = 1000;
-      minrto = 1000000;
-      extra = 0;
-      initial = Rfc5681;
-      congestion = Full;
-      slack = Some 30;
-      sender = Reno;
-      growth = OneSegment;
-    };
+    header = facts_header;
     lines =
         record { number = 11; moment = 12; thread = 1; event = events.Came One wire; span = nowhere }
         ∷ record { number = 12; moment = 40; thread = 1; event = events.Sent One wire; span = nowhere }
@@ -247,11 +251,48 @@ not_since_six = refl
 not_into_a_closed_window : runs_since 5 (record armed_at_five { snd_wnd = 0 }) ≡ false
 not_into_a_closed_window = refl
 
-runs_on_as_it_did : runs_on 5 armed_at_five armed_at_five ≡ true
+-- the same after a sample
+abbrev sampled : View
+sampled = record armed_at_five { timers = record armed_at_five.timers { srtt = Some 100 } }
+
+runs_on_as_it_did : runs_on facts_header 5 armed_at_five armed_at_five ≡ true
 runs_on_as_it_did = refl
 
-not_with_another_time : runs_on 5 armed_at_five (record armed_at_five { timers = record armed_at_five.timers { srtt = Some 100 } }) ≡ false
+not_with_another_time : runs_on facts_header 5 armed_at_five sampled ≡ false
 not_with_another_time = refl
+
+-- in version 6, with a clock that ticks every 1000 microseconds
+abbrev six_header : Header
+six_header = record facts_header { version = Six }
+
+three_timeouts_before_a_sample : run_time six_header armed_at_five ≡ 3000000
+three_timeouts_before_a_sample = refl
+
+the_timeout_in_version_five : run_time facts_header sampled ≡ 1000000
+the_timeout_in_version_five = refl
+
+five_ticks_more : run_time six_header sampled ≡ 1005000
+five_ticks_more = refl
+
+twenty_when_doubled_twice : run_time six_header (record sampled { backoffs = 2 }) ≡ 1020000
+twenty_when_doubled_twice = refl
+
+at_most_a_minute : run_time six_header (record sampled { backoffs = 14 }) ≡ 60000000
+at_most_a_minute = refl
+
+-- four bytes from 1 on are outstanding, and three from there on are built again
+oldest_again : BuildsOldest (happening.Builds (record ack { pos = 1; len = 3 })) (record sent_four { snd_una = 1; snd_max = 5 })
+oldest_again = (omega arith, omega arith, omega arith, λ alone. absurd (let e : false ≡ true = alone.0 in cc e))
+
+not_those_after_it : BuildsOldest (happening.Builds bytes) (record sent_four { snd_una = 1; snd_max = 5 }) → ⊥
+not_those_after_it is = let low : 2 ≤ 1 = is.1 in omega (arith, low)
+
+-- a FIN at 5 without bytes is outstanding, and is repeated
+abbrev fin_at_five : SegmentPlan
+fin_at_five = record ack { pos = 5; flags = record { ack = true; rst = false; syn = false; fin = true } }
+
+not_a_fin_alone : BuildsOldest (happening.Builds fin_at_five) (record sent_four { snd_una = 5; snd_max = 6 }) → ⊥
+not_a_fin_alone is = is.3 (refl, refl)
 
 -- a window that is closed with six bytes left
 abbrev shut : View
@@ -266,5 +307,22 @@ probed_at_ninety = refl
 opened_again : probes_after (happening.Recovers change.Begins) shut sent_four 95 (Some (record { since = 90; count = 1 })) ≡ None
 opened_again = refl
 
-after_two_probes : probe_time shut 2 ≡ 4000000
+after_two_probes : probe_time facts_header shut 2 ≡ 4000000
 after_two_probes = refl
+
+-- four times five ticks more in version 6
+after_two_in_version_six : probe_time six_header shut 2 ≡ 4020000
+after_two_in_version_six = refl
+
+-- an empty segment just below the oldest position probes it, and one after all that was sent doesn't
+keep_alive_probes : SendsProbe (happening.Sends (record { flags = ack.flags; pos = 0; length = 0; before_text = false })) shut shut
+keep_alive_probes = inr (inl (refl, refl))
+
+empty_at_the_end_does_not : SendsProbe (happening.Sends (record { flags = ack.flags; pos = 4; length = 0; before_text = false })) shut shut → ⊥
+empty_at_the_end_does_not (inl held) = omega (arith, held.0)
+empty_at_the_end_does_not (inr (inl below)) = omega (arith, below.1)
+empty_at_the_end_does_not (inr (inr (inl more))) = omega (arith, more)
+empty_at_the_end_does_not (inr (inr (inr opens))) = omega (arith, opens.1)
+
+opened_instead : SendsProbe (happening.Recovers change.Begins) shut sent_four
+opened_instead = inr (refl, omega arith)

@@ -1,5 +1,5 @@
 -- In each version, an expiry of the retransmission timer is followed by a retransmission.
-use Rattle.std.proofs.Common.{◌≡◌, ℕ, ◌+◌, ◌≤◌, ◌⊎◌, inl, inr, Bool, true, false, length, Option, Some, None, refl, ap, sym, subst, ◌∙◌, arith}
+use Rattle.std.proofs.Common.{◌≡◌, ℕ, ◌+◌, ◌≤◌, ◌⊎◌, inl, inr, Bool, true, false, length, Option, Some, None, refl, ap, sym, subst, arith}
 use Rattle.std.specs.Prelude.{◌==◌, ◌&&◌, ◌||◌, if◌then◌else◌}
 use Rattle.std.specs.Option.{option_or}
 use Rattle.std.proofs.lemmas.Option.{none-some}
@@ -12,14 +12,12 @@ use Rattle.verdict.specs.Rules.{first_broken}
 use Rattle.interval_order.specs.Orders.{last_moment}
 use Rattle.interval_order.specs.Placed.{Placed}
 use Rattle.spec_tcp_laws.proofs.Rules.{both_true, neither}
-use Rattle.spec_duties.specs.Acknowledge.{acknowledge_due}
 use Rattle.spec_duties.specs.Deadlines.{is_late}
 use Rattle.spec_duties.specs.End.{end_rules}
 use Rattle.spec_duties.specs.Events.{acknowledges_more, holds}
-use Rattle.spec_duties.specs.Owed.{lates_of}
 use Rattle.spec_duties.specs.Probe.{is_probing_segment}
 use Rattle.spec_duties.specs.Retransmit.{is_timeout, sends_oldest}
-use Rattle.spec_duties.specs.Strict.{coarse_expiry_due, coarse_probing_due, sends_oldest_or_probe, strict_after, strict_lates, with_brought}
+use Rattle.spec_duties.specs.Strict.{sends_oldest_or_probe, strict_after, strict_lates, with_brought}
 use Rattle.spec_duties.specs.declared.events.Event.{Event}
 use Rattle.spec_duties.specs.declared.events.Event.TheVariants.{Expires, Sends}
 use Rattle.spec_duties.specs.declared.observations.Sampling.{Sampling}
@@ -35,6 +33,7 @@ use Rattle.kept_duties.proofs.Inbox.{not_late}
 use Rattle.kept_duties.proofs.Runs.{Run}
 use Rattle.kept_duties.proofs.Soon.{either_true, expiries_followed, or_now, or_true, sends_oldest_from, since_now}
 use Rattle.kept_duties.proofs.StrictSince.{StrictDuty, arises_strictly}
+use Rattle.kept_duties.proofs.Stricter.{strict_open}
 
 -- what ends the stricter duty ends the plain one
 oldest_sent : (event : Event) (before : View) → sends_oldest_or_probe event before ≡ true → sends_oldest event before ≡ true
@@ -87,14 +86,7 @@ retransmit_fine : (grain slack moment : ℕ) (late : Bool) (v : View) (listener 
     → (with_brought late (strict_lates grain slack moment v listener o s)).retransmit ≡ false → is_closed v.state ≡ false → s.retransmit ≡ Some since
     → moment ≤ since + 0 + slack
 retransmit_fine grain slack moment late v listener o s since none open' is =
-    let here : (is_late slack moment s.retransmit || is_late slack moment s.probe) ≡ false =
-    sym (ap (λ (c : Bool). (with_brought late (if c then lates_of slack moment v listener o
-    else record (lates_of slack moment v listener o) {
-      acknowledge = is_late slack moment (acknowledge_due s.acknowledge);
-      expire = is_late slack moment (coarse_expiry_due grain v s.restarted);
-      retransmit = is_late slack moment s.retransmit || is_late slack moment s.probe;
-      probe = is_late slack moment (coarse_probing_due grain v o.probing);
-    })).retransmit) open') ∙ none in
+    let here = strict_open (λ l. l.retransmit ≡ false) grain slack moment late v listener o s open' none in
     let le = not_late slack since moment s.retransmit is (neither (is_late slack moment s.retransmit) (is_late slack moment s.probe) here).0 in
     omega (arith, le)
 

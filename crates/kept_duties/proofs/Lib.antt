@@ -4,7 +4,7 @@ pub mod Observations
 pub mod Inbox
 pub mod Built
 pub mod Judged
-mod Labels
+pub mod Labels
 pub mod Segments
 pub mod Touched
 pub mod Repeats
@@ -15,6 +15,7 @@ pub mod Events
 pub mod Facts
 pub mod Drops
 pub mod Asking
+pub mod RunTimes
 pub mod Expiries
 pub mod Probing
 pub mod Resets
@@ -23,6 +24,9 @@ pub mod Made
 pub mod Stricter
 pub mod StrictSince
 pub mod Followed
+pub mod Probed
 pub mod Acknowledged
 pub mod Senders
 pub mod Answered
+pub mod AnswerRate
+pub mod StrictAsking

@@ -28,7 +28,7 @@ use Rattle.spec_tcp.specs.Machine.{Act, Calls, act_after, act_makes, tcp, tcp_sh
 use Rattle.spec_tcp.specs.declared.endpoint.Emission.{Emission}
 use Rattle.spec_tcp.specs.declared.endpoint.SocketTarget.{SocketTarget}
 use Rattle.spec_tcp.specs.declared.endpoint.SocketTarget.TheVariants.{ListenerAt, EndpointAt}
-use Rattle.spec_duties.specs.Arrivals.{stamps_read}
+use Rattle.spec_duties.specs.Arrivals.{acked_sent, stamps_read}
 use Rattle.spec_duties.specs.Observations.{unseen, observe, observe_call, observe_effect, observe_accept, observe_close, observe_other, is_done}
 use Rattle.spec_duties.specs.Observations.{at_sender, syn_sent}
 use Rattle.spec_duties.specs.declared.observations.InboxChange.{InboxChange}
@@ -216,6 +216,7 @@ built_change_sends h moment w (At g (Sends line n wire)) host number may e =
         built_change = built_change.Sends n;
         syn_change = syn_sent h.version m.emission wire.bytes;
         stamps = stamps_read h.version wire.bytes;
+        acked = acked_sent h.version wire m.emission;
       })).built_change) p.1 ∙ ap built_change.Sends same.1,
       subst (λ (x : Host). Unsent w x number) same.0
           (subst (λ (x : ℕ). Unsent w g x) same.1 (record { made = p.0; there = p.1; unsent = (none_all (just rules.NotMade p.0.sent) both.1).0 })),

@@ -1,7 +1,7 @@
 -- A closed window is probed in time.
-use Rattle.std.proofs.Common.{◌≡◌, ℕ, zero, suc, ◌+◌, ◌*◌, ◌^◌, ◌<◌, ◌≤◌, ◌⊎◌, inl, inr, Bool, true, false, length, Option, Some, None, refl, ap, sym, subst}
+use Rattle.std.proofs.Common.{◌≡◌, ℕ, suc, ◌+◌, ◌*◌, ◌^◌, ◌<◌, ◌≤◌, ◌⊎◌, inl, inr, Bool, true, false, length, Option, Some, None, refl, ap, sym, subst}
 use Rattle.std.proofs.Common.{◌∙◌, arith, min}
-use Rattle.std.proofs.Math.Nat.{pow-succ', suc-mul, zero-mul}
+use Rattle.std.proofs.Math.Nat.{mul-le-mul_left, pow-succ'}
 use Rattle.std.proofs.lemmas.Bool.Decides.{nat_tests}
 use Rattle.std.proofs.lemmas.Option.{none-some}
 use Rattle.std.specs.Prelude.{◌==◌, ◌&&◌, if◌then◌else◌, nat_lt, not}
@@ -22,22 +22,27 @@ use Rattle.spec_tcp.specs.Machine.{tcp_shape}
 use Rattle.spec_tcp.specs.declared.endpoint.EndpointId.{EndpointId}
 use Rattle.spec_tcp_laws.proofs.Rules.{both_true, not_false, not_true, number_same}
 use Rattle.spec_cases.specs.Cases.{Known}
+use Rattle.spec_duties.specs.Deadlines.{is_late}
 use Rattle.spec_duties.specs.End.{end_rules}
 use Rattle.spec_duties.specs.Owed.{lates_of, once_closed, owed_after, owed_open}
 use Rattle.spec_duties.specs.Probe.{first_probing, greatest_factor, is_probe, next_probe_due, probing_due, still_probing}
 use Rattle.spec_duties.specs.Observations.{observe}
+use Rattle.spec_duties.specs.Strict.{coarse_probing_due, next_coarse_probe_due, strict_lates, with_brought}
 use Rattle.spec_duties.specs.Watching.{owed_by}
 use Rattle.spec_duties.specs.declared.events.Event.{Event}
 use Rattle.spec_duties.specs.declared.events.Event.TheVariants.{Expires, Sends}
 use Rattle.spec_duties.specs.declared.owed.Owed.{Owed}
 use Rattle.spec_duties.specs.declared.owed.Probing.{Probing}
+use Rattle.spec_duties.specs.declared.strict.StrictOwed.{StrictOwed}
 use Rattle.spec_duties.specs.declared.observations.TouchedEndpoint.{TouchedEndpoint}
 use Rattle.spec_duties.specs.declared.views.View.{View}
 use Rattle.checker.specs.Seen.{moves}
 use Rattle.kept_duties.specs.Counts.{event_for}
+use Rattle.kept_duties.specs.Expiries.{clock_error}
 use Rattle.kept_duties.specs.Happens.{act_at, known_before, seen_before, world_before}
 use Rattle.kept_duties.specs.Probes.{Probes, ProbesAreInTime, ProbesIt, awaits_probe, is_probing, is_shut, probe_time}
 use Rattle.kept_duties.specs.Probes.{probes_after, probes_before, probes_by, still_probed}
+use Rattle.kept_duties.specs.Soon.{IsDoneUnless}
 use Rattle.kept_duties.proofs.Judged.{plain_same}
 use Rattle.kept_duties.proofs.Counts.{event_here, event_of}
 use Rattle.kept_duties.proofs.Inbox.{not_late}
@@ -46,6 +51,8 @@ use Rattle.kept_duties.proofs.Runs.{Run, Steps, onward, world_is}
 use Rattle.kept_duties.proofs.Segments.{within}
 use Rattle.kept_duties.proofs.Since.{Wait, from_step, nothing_first}
 use Rattle.kept_duties.proofs.Soon.{late_open}
+use Rattle.kept_duties.proofs.StrictSince.{StrictWait, from_step_strictly}
+use Rattle.kept_duties.proofs.Stricter.{strict_open}
 use Rattle.kept_duties.proofs.Touched.{AsBefore, AsShown, Touches, as_before, seen, touched, touches_or_not}
 
 abbrev probing_of : Probes → Probing
@@ -54,15 +61,6 @@ probing_of p = record { since = p.since; factor = min (2 ^ p.count) greatest_fac
 -- doubling a value that was cut at a limit, and cutting again
 cut_twice : (limit n m : ℕ) → m ≡ 2 * n → min (2 * min n limit) limit ≡ min m limit
 cut_twice limit n m e = omega arith
-
--- a cut that changes nothing
-times_cut : (rto n : ℕ) → rto * n < longest_rto → rto * min n greatest_factor ≡ rto * n
-times_cut zero n low = zero-mul (min n greatest_factor) ∙ sym (zero-mul n)
-times_cut (suc rto) n low =
-    let more : suc rto * n ≡ rto * n + n = suc-mul rto n in
-    let small : n < longest_rto = omega (arith, more, low) in
-    let same : min n greatest_factor ≡ n = omega (arith, small) in
-    ap (λ (m : ℕ). suc rto * m) same
 
 -- what duties test is what the law says
 probing_test : (event : Event) (v : View) → is_probe event v ≡ is_probing event v
@@ -121,42 +119,84 @@ awaits_parts rto v is =
     let b = both_true (not (is_closed v.state)) (is_shut v) a.0 in
     record { open' = not_true (is_closed v.state) b.0; work = b.1; same = number_same v.timers.rto rto a.1 }
 
-probe_wait : (rto slack : ℕ) (p : Probes) → rto * 2 ^ p.count < longest_rto
-    → Wait (λ o. o.probing ≡ Some (probing_of p)) ProbesIt (λ v. not (awaits_probe rto v)) (λ l. l.probe) slack (p.since + rto * 2 ^ p.count + slack)
-probe_wait rto slack p low = record { onward = onward'; rules = λ l all. all.1.1.1.0; either = λ a b. refl; fine = fine }
+-- what was probed before stays so, unless it is probed again
+probe_onward : (rto : ℕ) (p : Probes) (event : Event) (before after : View) (moment : ℕ) (listener : Option ℕ) (counts : Bool) (o : Owed)
+    → o.probing ≡ Some (probing_of p)
+    → ProbesIt event before after ⊎ (not (awaits_probe rto after) ≡ true)
+    ⊎ ((owed_after event before after moment listener counts o).probing ≡ Some (probing_of p))
+probe_onward rto p event before after moment listener counts o is = by (is_probing event before) (awaits_probe rto after) refl refl
   where
-    onward' : (event : Event) (before after : View) (moment : ℕ) (listener : Option ℕ) (counts : Bool) (o : Owed) → not (awaits_probe rto before) ≡ false
-        → o.probing ≡ Some (probing_of p)
+    by : (a b : Bool) → is_probing event before ≡ a → awaits_probe rto after ≡ b
         → ProbesIt event before after ⊎ (not (awaits_probe rto after) ≡ true)
         ⊎ ((owed_after event before after moment listener counts o).probing ≡ Some (probing_of p))
-    onward' event before after moment listener counts o awaits is = by (is_probing event before) (awaits_probe rto after) refl refl
-      where
-        by : (a b : Bool) → is_probing event before ≡ a → awaits_probe rto after ≡ b
-            → ProbesIt event before after ⊎ (not (awaits_probe rto after) ≡ true)
-            ⊎ ((owed_after event before after moment listener counts o).probing ≡ Some (probing_of p))
-        by true b probes awaits = inl probes
-        by false false none stops = inr (inl (ap not stops))
-        by false true none awaits =
-            let now = awaits_parts rto after awaits in
-            inr (inr (probing_is event before after moment listener counts o (Some p) is
-            ∙ ap (λ (c : Bool). option_map probing_of (if not c && is_shut after then Some (still_probed event before moment p)
-            else None)) now.open'
-            ∙ ap (λ (c : Bool). option_map probing_of (if true && c then Some (still_probed event before moment p) else None)) now.work
-            ∙ ap (λ (c : Bool). Some (probing_of (if c then record { since = moment; count = suc p.count } else p))) none))
+    by true b probes awaits = inl probes
+    by false false none stops = inr (inl (ap not stops))
+    by false true none awaits =
+        let now = awaits_parts rto after awaits in
+        inr (inr (probing_is event before after moment listener counts o (Some p) is
+        ∙ ap (λ (c : Bool). option_map probing_of (if not c && is_shut after then Some (still_probed event before moment p)
+        else None)) now.open'
+        ∙ ap (λ (c : Bool). option_map probing_of (if true && c then Some (still_probed event before moment p) else None)) now.work
+        ∙ ap (λ (c : Bool). Some (probing_of (if c then record { since = moment; count = suc p.count } else p))) none))
 
+-- the deadline that duties compute is at most that of the law
+probe_soon : (rto error slack moment : ℕ) (p : Probes) (due : Option ℕ) → rto * 2 ^ p.count < longest_rto
+    → due ≡ (if nat_lt (rto * (probing_of p).factor) longest_rto then Some (p.since + (rto + error) * (probing_of p).factor) else None)
+    → is_late slack moment due ≡ false → moment ≤ p.since + (rto + error) * 2 ^ p.count + slack
+probe_soon rto error slack moment p due low is none =
+    let cut : min (2 ^ p.count) greatest_factor ≤ 2 ^ p.count = omega arith in
+    let short = mul-le-mul_left rto cut in
+    let below : nat_lt (rto * min (2 ^ p.count) greatest_factor) longest_rto ≡ true = grind (arith, nat_tests, short, low) in
+    let le = not_late slack (p.since + (rto + error) * min (2 ^ p.count) greatest_factor) moment due
+    (is ∙ ap (λ (b : Bool). if b then Some (p.since + (rto + error) * min (2 ^ p.count) greatest_factor) else None) below) none in
+    let long = mul-le-mul_left (rto + error) cut in
+    omega (arith, le, long)
+
+plain_wait : (h : Header) (rto slack : ℕ) (p : Probes) → says_sender h.version ≡ false → rto * 2 ^ p.count < longest_rto
+    → Wait (λ o. o.probing ≡ Some (probing_of p)) ProbesIt (λ v. not (awaits_probe rto v)) (λ l. l.probe) slack
+    (p.since + (rto + clock_error h) * 2 ^ p.count + slack)
+plain_wait h rto slack p plain low = record {
+  onward = λ event before after moment listener counts o awaits is. probe_onward rto p event before after moment listener counts o is;
+  rules = λ l all. all.1.1.1.0;
+  either = λ a b. refl;
+  fine = fine;
+}
+  where
     fine : (moment : ℕ) (v : View) (listener : Option ℕ) (o : Owed) → (lates_of slack moment v listener o).probe ≡ false → not (awaits_probe rto v) ≡ false
-        → o.probing ≡ Some (probing_of p) → moment ≤ p.since + rto * 2 ^ p.count + slack
+        → o.probing ≡ Some (probing_of p) → moment ≤ p.since + (rto + clock_error h) * 2 ^ p.count + slack
     fine moment v listener o none awaits is =
         let now = awaits_parts rto v (not_false (awaits_probe rto v) awaits) in
-        let cut = times_cut rto (2 ^ p.count) low in
-        let below : nat_lt (rto * min (2 ^ p.count) greatest_factor) longest_rto ≡ true = grind (arith, nat_tests, cut, low) in
-        let due : probing_due v o.probing ≡ Some (p.since + rto * 2 ^ p.count) =
-        ap (λ (g : Option Probing). option_map_or (next_probe_due v.timers.rto) g None) is
+        let same : rto ≡ rto + clock_error h =
+        (let e : clock_error h ≡ 0 = ap (λ (b : Bool). if b then 5 * h.grain else 0) plain in omega (arith, e)) in
+        probe_soon rto (clock_error h) slack moment p (probing_due v o.probing) low
+        (ap (λ (g : Option Probing). option_map_or (next_probe_due v.timers.rto) g None) is
         ∙ ap (λ (n : ℕ). next_probe_due n (probing_of p)) now.same
-        ∙ ap (λ (b : Bool). if b then Some (p.since + rto * min (2 ^ p.count) greatest_factor) else None) below
-        ∙ ap (λ (n : ℕ). Some (p.since + n)) cut in
-        not_late slack (p.since + rto * 2 ^ p.count) moment (probing_due v o.probing) due
+        ∙ ap (λ (n : ℕ). if nat_lt (rto * (probing_of p).factor) longest_rto then Some (p.since + n * (probing_of p).factor) else None) same)
         (late_open (λ l. l.probe ≡ false) slack moment v listener o now.open' none)
+
+strict_wait : (h : Header) (rto slack : ℕ) (p : Probes) → says_sender h.version ≡ true → rto * 2 ^ p.count < longest_rto
+    → StrictWait (λ o q. o.probing ≡ Some (probing_of p)) ProbesIt (λ v. not (awaits_probe rto v)) (λ l. l.probe) h.grain slack
+    (p.since + (rto + clock_error h) * 2 ^ p.count + slack)
+strict_wait h rto slack p six low = record {
+  onward = λ s event as_seen like before after moment listener counts acknowledged sent o q awaits is.
+      probe_onward rto p event before after moment listener counts o is;
+  rules = λ l all. all.1.1.1.0;
+  either = λ a b. refl;
+  fine = fine;
+  reads = λ is like q same probing. ap (λ (o : Owed). o.probing) same ∙ probing;
+}
+  where
+    fine : (moment : ℕ) (late : Bool) (v : View) (listener : Option ℕ) (o : Owed) (q : StrictOwed)
+        → (with_brought late (strict_lates h.grain slack moment v listener o q)).probe ≡ false → not (awaits_probe rto v) ≡ false
+        → o.probing ≡ Some (probing_of p) → moment ≤ p.since + (rto + clock_error h) * 2 ^ p.count + slack
+    fine moment late v listener o q none awaits is =
+        let now = awaits_parts rto v (not_false (awaits_probe rto v) awaits) in
+        probe_soon rto (clock_error h) slack moment p (coarse_probing_due h.grain v o.probing) low
+        (ap (λ (g : Option Probing). option_map_or (next_coarse_probe_due h.grain v.timers.rto) g None) is
+        ∙ ap (λ (n : ℕ). next_coarse_probe_due h.grain n (probing_of p)) now.same
+        ∙ ap (λ (b : Bool). if nat_lt (rto * (probing_of p).factor) longest_rto
+        then Some (p.since + (rto + (if b then 5 * h.grain else 0)) * (probing_of p).factor) else None) (sym six))
+        (strict_open (λ l. l.probe ≡ false) h.grain slack moment late v listener o q now.open' none)
 
 -- a step that does nothing at the endpoint has no event for it
 no_event : (h : Header) (moment : ℕ) (v : World tcp_shape) (step : Step tcp_shape) (me : EndpointId)
@@ -238,16 +278,11 @@ module _ (t : Trace) (w : Witness) (slack : ℕ) (r : Run t.header slack (length
       (ap (λ (k : Known). (owed_by k.duties me.host me.number).probing) r.start ∙ ap (λ (o : Owed). o.probing) (nothing_first t.header me.host me.number))
       (λ j low less old. agree_next me j (omega (arith, less, high)) old)
 
-  pub probes_in_time : says_sender t.header.version ≡ false → (placed : Placed t.header t.lines (moves w.steps))
+  pub probes_in_time : (placed : Placed t.header t.lines (moves w.steps))
       → first_broken (end_rules t.header slack (last_moment (moves w.steps)) (known_before t w (length w.steps)).duties
       (known_before t w (length w.steps)).model) ≡ None
       → ProbesAreInTime t w slack
-  probes_in_time plain placed late place moment me event p a probes low =
-      from_step t w slack r placed me (λ o. o.probing ≡ Some (probing_of p)) ProbesIt (λ v. not (awaits_probe first.timers.rto v)) (λ l. l.probe) place
-      (p.since + probe_time first p.count + slack) (probe_wait first.timers.rto slack p low)
-      (plain_same (λ l. l.probe) t.header slack plain) (λ is like plain rest owes. ap (λ (o : Owed). o.probing) rest ∙ owes) late moment event a
-      (ap (λ (v : World tcp_shape). not (awaits_probe first.timers.rto (seen v me))) (world_is t w (suc place)) ∙ ap not awaits)
-      (agree_at me (suc place) (within t w place a.act a.is) ∙ ap (option_map probing_of) probes)
+  probes_in_time placed late place moment me event p a probes low = by (says_sender t.header.version) refl
     where
       first : View
       first = seen_before t w (suc place) me
@@ -274,3 +309,21 @@ module _ (t : Trace) (w : Witness) (slack : ℕ) (r : Run t.header slack (length
           (option_map_or (still_probed event (seen_before t w place me) a.act.moment) old (record { since = a.act.moment; count = 0 })) (sym shows ∙ probes) in
           let same : (first.timers.rto == first.timers.rto) ≡ true = grind (arith, nat_tests) in
           (λ i. so i && same i)
+
+      awaits_now : not (awaits_probe first.timers.rto (seen (known_before t w (suc place)).model me)) ≡ false
+      awaits_now = ap (λ (v : World tcp_shape). not (awaits_probe first.timers.rto (seen v me))) (world_is t w (suc place)) ∙ ap not awaits
+
+      owes : (owed_by (known_before t w (suc place)).duties me.host me.number).probing ≡ Some (probing_of p)
+      owes = agree_at me (suc place) (within t w place a.act a.is) ∙ ap (option_map probing_of) probes
+
+      by : (b : Bool) → says_sender t.header.version ≡ b
+          → IsDoneUnless t w place (p.since + probe_time t.header first p.count + slack) me ProbesIt (λ v. not (awaits_probe first.timers.rto v))
+      by false plain =
+          from_step t w slack r placed me (λ o. o.probing ≡ Some (probing_of p)) ProbesIt (λ v. not (awaits_probe first.timers.rto v)) (λ l. l.probe) place
+          (p.since + probe_time t.header first p.count + slack) (plain_wait t.header first.timers.rto slack p plain low)
+          (plain_same (λ l. l.probe) t.header slack plain) (λ is like plain rest owes. ap (λ (o : Owed). o.probing) rest ∙ owes) late moment event a
+          awaits_now owes
+      by true six =
+          from_step_strictly t w slack r placed six me (λ o q. o.probing ≡ Some (probing_of p)) ProbesIt (λ v. not (awaits_probe first.timers.rto v))
+          (λ l. l.probe) place (p.since + probe_time t.header first p.count + slack) (strict_wait t.header first.timers.rto slack p six low) late moment
+          event a awaits_now owes

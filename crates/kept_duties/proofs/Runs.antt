@@ -18,11 +18,10 @@ use Rattle.spec_network.specs.HostRules.{Permitted}
 use Rattle.spec_network.specs.HostSteps.{after, after_all, Lawful}
 use Rattle.spec_network.specs.Tables.{on}
 use Rattle.spec_tcp.specs.Machine.{tcp, tcp_shape}
-use Rattle.verdict.specs.declared.rule.Rule.TheVariants as rules
 use Rattle.spec_cases.specs.Cases.{Known, Dutiful, first_known, known_after, known_after_all, shown, untrue_at, watch_rules, with_waits}
 use Rattle.spec_duties.specs.Observations.{observe, view_in}
 use Rattle.spec_duties.specs.Watching.{Duties, built_after, built_by, counts_now, drops_needed, duty_rules, duties_after, inbox_after, listening_after}
-use Rattle.spec_duties.specs.Watching.{owed_table_after, sent_by, strict_table_after, unsent_after}
+use Rattle.spec_duties.specs.Watching.{owed_table_after, sent_by, strict_table_after, unsent_after, untrue_rules}
 use Rattle.spec_duties.specs.declared.observations.Observation.{Observation}
 use Rattle.checker.specs.Seen.{act_of, stamped}
 use Rattle.kept_duties.specs.Happens.{act_at, known_before, world_before}
@@ -44,7 +43,7 @@ pub record Goes (h : Header) (slack : ℕ) (k next : Known) (x : Stamped tcp_sha
   pub sees : Sees h (observe h x.moment k.model x.step) (shown h x.moment k x.step)
   pub dropped : drops_needed k.duties (shown h x.moment k x.step).dropping ≡ false
   pub dutiful : AllByRecursion (λ r. r.1 ≡ false)
-      (duty_rules h slack x.moment k.duties (untrue_at h k x.step) (record (observe h x.moment k.model x.step) { dropping = None }))
+      (duty_rules h slack x.moment k.duties (untrue_at h x.moment k x.step) (record (observe h x.moment k.model x.step) { dropping = None }))
   pub model : next.model ≡ after (tcp h) x.moment k.model x.step
   pub owed : next.duties.owed
       ≡ on (judged_by sees.judge (observe h x.moment k.model x.step).touched) k.duties.owed
@@ -158,7 +157,7 @@ module _ (h : Header) (lines : List Line) where
           rest.1.1.0,
           (
             rest.1.1.1.0,
-            rules_seen seen.judge seen.alike h slack x.moment k.duties (counts_now (built_by k.duties s.built_change)) (untrue_at h k x.step)
+            rules_seen seen.judge seen.alike h slack x.moment k.duties (counts_now (built_by k.duties s.built_change)) (untrue_at h x.moment k x.step)
                 (sent_by k.duties s.built_change) s.sampling s.call_change s.touched rest.1.1.1.1,
           ),
         ),
@@ -204,13 +203,13 @@ module _ (h : Header) (lines : List Line) where
       seen = sees h k.flights s
 
       All : Observation → Type 0
-      All e = AllByRecursion (λ r. r.1 ≡ false) (duty_rules h slack x.moment k.duties (untrue_at h k x.step) e)
+      All e = AllByRecursion (λ r. r.1 ≡ false) (duty_rules h slack x.moment k.duties (untrue_at h x.moment k x.step) e)
 
       fine : All e
       fine =
-          none_all (duty_rules h slack x.moment k.duties (untrue_at h k x.step) e)
-          (sym (ap (λ o. first_broken (on o ((rules.SackUntrue, untrue_at h k x.step) ∷ [])
-          (λ slack. duty_rules h slack x.moment k.duties (untrue_at h k x.step) e))) given) ∙ may.1)
+          none_all (duty_rules h slack x.moment k.duties (untrue_at h x.moment k x.step) e)
+          (sym (ap (λ o. first_broken (on o (untrue_rules (untrue_at h x.moment k x.step))
+          (λ slack. duty_rules h slack x.moment k.duties (untrue_at h x.moment k x.step) e))) given) ∙ may.1)
 
       rest : All (record s { touched = judged_by seen.judge s.touched; dropping = e.dropping; earns = e.earns })
       rest = subst All seen.is fine

@@ -78,7 +78,7 @@ receives_in states.FinWait1 is = refl
 receives_in states.FinWait2 is = refl
 receives_in state is = absurd cc
 
-more_from : (before after : View) → acknowledges_more before after ≡ true → AcknowledgesMore before after
+pub more_from : (before after : View) → acknowledges_more before after ≡ true → AcknowledgesMore before after
 more_from before after is = grind (arith, nat_tests, is)
 
 pub sends_oldest_from : (event : Event) (before after : View) → (sends_oldest event before || acknowledges_more before after) ≡ true

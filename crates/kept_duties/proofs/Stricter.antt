@@ -1,11 +1,12 @@
 -- What an endpoint owes by the stricter duties of version 6, step by step.
 use Rattle.std.proofs.Common.{◌≡◌, ℕ, ◌⊎◌, inl, inr, Bool, true, false, List, Option, Some, None, refl, ap, sym, subst, ◌∙◌, cond}
 use Rattle.std.proofs.Common.{nat_eq, arith}
-use Rattle.std.specs.Prelude.{if◌then◌else◌, unwrap_or}
+use Rattle.std.specs.Prelude.{◌||◌, if◌then◌else◌, unwrap_or}
 use Rattle.std.specs.List.{AllByRecursion}
 use Rattle.std.specs.Map.{lookup}
 use Rattle.std.proofs.lemmas.Bool.Decides.{nat_tests}
 use Rattle.indexmap.specs.IndexMap.{insert_entry}
+use Rattle.case_forms.specs.States.{is_closed}
 use Rattle.case_forms.specs.Versions.{says_sender}
 use Rattle.case_forms.specs.declared.calls.Host.{Host}
 use Rattle.case_forms.specs.declared.calls.Host.TheVariants.{Zero, One}
@@ -21,13 +22,15 @@ use Rattle.spec_duties.specs.Acknowledge.{acknowledge_due}
 use Rattle.spec_duties.specs.Deadlines.{is_late}
 use Rattle.spec_duties.specs.Observations.{observe, view_in}
 use Rattle.spec_duties.specs.Owed.{late_rules, lates_of}
-use Rattle.spec_duties.specs.Strict.{brought_by, nothing_strict, strict_after, strict_lates, with_brought}
+use Rattle.spec_duties.specs.Strict.{brought_by, coarse_expiry_due, coarse_probing_due, nothing_strict, strict_after, strict_lates, with_brought}
 use Rattle.spec_duties.specs.Watching.{answer_rules, counts_now, built_by, listener_closed, owed_by, sent_by, strict_by, strict_table_after, touched_rules}
 use Rattle.spec_duties.specs.declared.events.Event.{Event}
 use Rattle.spec_duties.specs.declared.observations.Observation.{Observation}
 use Rattle.spec_duties.specs.declared.observations.TouchedEndpoint.{TouchedEndpoint}
 use Rattle.spec_duties.specs.declared.owed.Lates.{Lates}
+use Rattle.spec_duties.specs.declared.owed.Owed.{Owed}
 use Rattle.spec_duties.specs.declared.strict.StrictOwed.{StrictOwed}
+use Rattle.spec_duties.specs.declared.views.View.{View}
 use Rattle.kept_duties.proofs.Excused.{judged_by}
 use Rattle.kept_duties.proofs.Runs.{Goes}
 use Rattle.kept_duties.proofs.Touched.{AsBefore, as_before, seen, touched}
@@ -96,6 +99,24 @@ lates_strictly h slack moment k me brought =
     (strict_lates h.grain slack moment (seen k.model me) (listener_closed k.duties me.host (seen k.model me)) (owed_by k.duties me.host me.number)
     (strict_by k.duties me.host me.number))
 
+-- of an endpoint that isn't CLOSED
+pub strict_open : (P : Lates → Type 0) (grain slack moment : ℕ) (late : Bool) (v : View) (listener : Option ℕ) (o : Owed) (q : StrictOwed)
+    → is_closed v.state ≡ false → P (with_brought late (strict_lates grain slack moment v listener o q))
+    → P (with_brought late (record (lates_of slack moment v listener o) {
+      acknowledge = is_late slack moment (acknowledge_due q.acknowledge);
+      expire = is_late slack moment (coarse_expiry_due grain v q.restarted);
+      retransmit = is_late slack moment q.retransmit || is_late slack moment q.probe;
+      probe = is_late slack moment (coarse_probing_due grain v o.probing);
+    }))
+strict_open P grain slack moment late v listener o q open' =
+    subst (λ (c : Bool). P (with_brought late (if c then lates_of slack moment v listener o
+    else record (lates_of slack moment v listener o) {
+      acknowledge = is_late slack moment (acknowledge_due q.acknowledge);
+      expire = is_late slack moment (coarse_expiry_due grain v q.restarted);
+      retransmit = is_late slack moment q.retransmit || is_late slack moment q.probe;
+      probe = is_late slack moment (coarse_probing_due grain v o.probing);
+    }))) open'
+
 module _ (h : Header) (slack : ℕ) (k next : Known) (x : Stamped tcp_shape) (me : EndpointId) (goes : Goes h slack k next x)
     (six : says_sender h.version ≡ true) where
   abbrev shown : Observation
@@ -155,8 +176,8 @@ module _ (h : Header) (slack : ℕ) (k next : Known) (x : Stamped tcp_shape) (me
       let rules = goes.dutiful.1.1.1.1 in
       let here =
       subst (λ (o : Option TouchedEndpoint). AllByRecursion (λ r. r.1 ≡ false)
-      (on o (answer_rules slack x.moment k.duties (untrue_at h k x.step) shown.call_change)
-      (touched_rules h slack x.moment k.duties (counts_now (built_by k.duties shown.built_change)) (untrue_at h k x.step)
+      (on o (answer_rules slack x.moment k.duties (untrue_at h x.moment k x.step) shown.call_change)
+      (touched_rules h slack x.moment k.duties (counts_now (built_by k.duties shown.built_change)) (untrue_at h x.moment k x.step)
       (sent_by k.duties shown.built_change) shown.sampling))) shows rules in
       subst (λ (b : Bool). AllByRecursion (λ r. r.1 ≡ false) (late_rules (if b
       then lates_strictly h slack x.moment k me (brought_by (sent_by k.duties shown.built_change))

@@ -371,8 +371,8 @@ module _ (h : Header) (slack : ℕ) (k next : Known) (x : Stamped tcp_shape) (me
       let rules = goes.dutiful.1.1.1.1 in
       let here =
       subst (λ (o : Option TouchedEndpoint). AllByRecursion (λ r. r.1 ≡ false)
-      (on o (answer_rules slack x.moment k.duties (untrue_at h k x.step) shown.call_change)
-      (touched_rules h slack x.moment k.duties counts (untrue_at h k x.step)
+      (on o (answer_rules slack x.moment k.duties (untrue_at h x.moment k x.step) shown.call_change)
+      (touched_rules h slack x.moment k.duties counts (untrue_at h x.moment k x.step)
       (sent_by k.duties shown.built_change) shown.sampling))) shows rules in
       record {
         counts = counts;

@@ -6,6 +6,7 @@ use Rattle.std.specs.Option.{option_map_or}
 use Rattle.case_forms.specs.States.{is_closed}
 use Rattle.case_forms.specs.declared.steps.Witness.{Witness}
 use Rattle.case_forms.specs.declared.timer.Timer.TheVariants.{Persist, Rto}
+use Rattle.case_forms.specs.declared.trace.Header.{Header}
 use Rattle.case_forms.specs.declared.trace.Trace.{Trace}
 use Rattle.timer_rules.specs.Timeouts.{longest_rto}
 use Rattle.spec_network.specs.Hosts.{Stamped}
@@ -17,6 +18,7 @@ use Rattle.spec_duties.specs.declared.events.Event.{Event}
 use Rattle.spec_duties.specs.declared.events.Event.TheVariants.{Expires, Sends}
 use Rattle.spec_duties.specs.declared.views.View.{View}
 use Rattle.kept_duties.specs.Counts.{event_for}
+use Rattle.kept_duties.specs.Expiries.{clock_error}
 use Rattle.kept_duties.specs.Happens.{Happens, act_at, seen_before, world_before}
 use Rattle.kept_duties.specs.Soon.{IsDoneUnless}
 
@@ -69,16 +71,17 @@ ProbesIt event before after = is_probing event before ≡ true
 abbrev pub awaits_probe : (rto : ℕ) → View → Bool
 awaits_probe rto v = not (is_closed v.state) && is_shut v && v.timers.rto == rto
 
--- how long a probe may take after so many probes: the timeout, doubled at each
-abbrev pub probe_time : View → (count : ℕ) → ℕ
-probe_time v count = v.timers.rto * 2 ^ count
+-- how long a probe may take after so many probes: the timeout and the clock's error, doubled at each
+abbrev pub probe_time : Header → View → (count : ℕ) → ℕ
+probe_time h v count = (v.timers.rto + clock_error h) * 2 ^ count
 
--- a closed window is probed within the timeout and the slack, then within twice as long, and so on, up to a minute;
--- unless it is opened, no work is left, the timeout is another, the endpoint is CLOSED, or the witness ends
+-- a closed window is probed within the timeout and the slack, then within twice as long, and so on, while the timeout
+-- so doubled is below a minute; unless it is opened, no work is left, the timeout is another, the endpoint is CLOSED,
+-- or the witness ends
 abbrev pub ProbesAreInTime : Trace → Witness → (slack : ℕ) → Type 0
 ProbesAreInTime t w slack =
     (place moment : ℕ) (me : EndpointId) (event : Event) (p : Probes) → Happens t w place moment me event
     → probes_before t w me (suc place) ≡ Some p
-    → probe_time (seen_before t w (suc place) me) p.count < longest_rto
-    → IsDoneUnless t w place (p.since + probe_time (seen_before t w (suc place) me) p.count + slack) me ProbesIt
-    (λ v. not (awaits_probe (seen_before t w (suc place) me).timers.rto v))
+    → (seen_before t w (suc place) me).timers.rto * 2 ^ p.count < longest_rto
+    → IsDoneUnless t w place (p.since + probe_time t.header (seen_before t w (suc place) me) p.count + slack) me
+    ProbesIt (λ v. not (awaits_probe (seen_before t w (suc place) me).timers.rto v))

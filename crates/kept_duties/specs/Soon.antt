@@ -76,6 +76,10 @@ ReceiptsAreAnswered t w slack =
 abbrev pub AcknowledgesMore : (before after : View) → Type 0
 AcknowledgesMore before after = before.snd_una < after.snd_una
 
+-- the offered window opens
+abbrev pub WindowOpens : (before after : View) → Type 0
+WindowOpens before after = (before.snd_wnd ≡ 0) × (0 < after.snd_wnd)
+
 -- the oldest unacknowledged position is sent again, or is acknowledged; into a closed window any segment will do
 abbrev pub SendsOldest : Event → (before after : View) → Type 0
 SendsOldest (Sends s) before after =
@@ -99,6 +103,20 @@ abbrev pub ProbesAreSent : Trace → Witness → (slack : ℕ) → Type 0
 ProbesAreSent t w slack =
     (place moment : ℕ) (me : EndpointId) → Happens t w place moment me (Expires Persist)
     → IsDoneBy t w place (moment + slack) me SendsAnything
+
+-- in version 6, what is sent has to probe the window: it holds the oldest unacknowledged position or, as a keep-alive
+-- does, is empty and just below it. If the window opens, none is needed
+abbrev pub SendsProbe : Event → (before after : View) → Type 0
+SendsProbe (Sends s) before after =
+    ((s.pos ≤ before.snd_una) × (before.snd_una < s.pos + s.length))
+    ⊎ ((s.length ≡ 0) × (s.pos + 1 ≡ before.snd_una)) ⊎ AcknowledgesMore before after ⊎ WindowOpens before after
+SendsProbe event before after = AcknowledgesMore before after ⊎ WindowOpens before after
+
+-- that happens within the slack
+abbrev pub ClosedWindowsAreProbed : Trace → Witness → (slack : ℕ) → Type 0
+ClosedWindowsAreProbed t w slack =
+    (place moment : ℕ) (me : EndpointId) → Happens t w place moment me (Expires Persist)
+    → IsDoneBy t w place (moment + slack) me SendsProbe
 
 -- something waits to be sent, nothing is outstanding, and no window holds it back
 pub record IsIdle (v : View) : Type 0 where

@@ -93,22 +93,24 @@ pub fn drops_are_answered()
         → says_sender t.header.version ≡ false → DropsAreAnswered t w slack }
 {}
 
-/// In versions 1 to 5: a retransmission timer with a timeout below a minute expired at most the timeout and the slack
-/// after it was armed or the window was opened; before the first sample, at most three timeouts. This holds while the
-/// window stays open, or stays closed because nothing was acknowledged yet. It holds unless the timer stopped, was set
-/// anew or got another timeout, the endpoint was CLOSED, or the last step is at most that much later (RFC 6298, 5.1 to
-/// 5.3).
+/// A retransmission timer with a timeout below a minute expired at most its time and the slack after it was armed or
+/// the window was opened. That time is the timeout, and before the first sample three timeouts. In version 6, a clock
+/// may be wrong by five times `grain`, which is added, doubled as often as the timeout was, up to a minute; and the
+/// timer begins anew when the oldest unacknowledged position is built again. This holds while the window stays open, or
+/// stays closed because nothing was acknowledged yet. It holds unless the timer stopped, was set anew or got another
+/// time, the endpoint was CLOSED, or the last step is at most that much later (RFC 6298, 2 and 5.1 to 5.3).
 pub fn expiries_are_in_time()
     ensures { (t : Trace) (w : Witness) (slack : ℕ) → Explains t w → t.header.slack ≡ Some slack
-        → says_sender t.header.version ≡ false → ExpiriesAreInTime t w slack }
+        → ExpiriesAreInTime t w slack }
 {}
 
-/// In versions 1 to 5: a window that is closed while bytes wait or are outstanding was probed at most a timeout and the
-/// slack later, then at most twice as long, and so on, up to a minute; unless it was opened, no work was left, the
-/// timeout changed, the endpoint was CLOSED, or the last step is at most that much later (RFC 9293, 3.8.6.1).
+/// A window that is closed while bytes wait or are outstanding was probed at most a timeout and the slack later, then
+/// at most twice as long, and so on, up to a minute. In version 6, a clock may be wrong by five times `grain`, which is
+/// added and doubled with it. This holds unless the window was opened, no work was left, the timeout changed, the
+/// endpoint was CLOSED, or the last step is at most that much later (RFC 9293, 3.8.6.1).
 pub fn probes_are_in_time()
     ensures { (t : Trace) (w : Witness) (slack : ℕ) → Explains t w → t.header.slack ≡ Some slack
-        → says_sender t.header.version ≡ false → ProbesAreInTime t w slack }
+        → ProbesAreInTime t w slack }
 {}
 
 /// After `abort` of a connection that then has to be reset, a segment with RST was sent at most the slack later, unless

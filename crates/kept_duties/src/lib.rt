@@ -31,4 +31,7 @@ pub use laws::{
     expiries_are_in_time, next_is_kept, nothing_is_resent_twice, probes_are_in_time,
     probes_are_sent, receipts_are_answered, repeats_stay_within, sendings_are_fresh, work_is_begun,
 };
-pub use strict_laws::{receipts_are_answered_after, what_is_built_is_sent};
+pub use strict_laws::{
+    closed_windows_are_probed, drops_are_answered_after, receipts_are_answered_after,
+    what_is_built_is_sent,
+};

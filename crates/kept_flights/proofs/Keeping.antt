@@ -51,7 +51,7 @@ use Rattle.spec_flights.specs.Sides.{sides_after}
 use Rattle.kept_flights.specs.Places.{Happens, observed, seen_before, world_before}
 use Rattle.kept_flights.specs.Holding.{PeerPermits, WasKept}
 use Rattle.kept_flights.proofs.Runs.{flight_before, known_before, place_after, touched}
-use Rattle.flights.proofs.SetLemmas.{read_back}
+use Rattle.flight_parts.proofs.SetLemmas.{read_back}
 
 -- ---- only `T` steps keep something
 

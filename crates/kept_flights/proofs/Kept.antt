@@ -33,7 +33,7 @@ use Rattle.spec_flights.specs.declared.recovery.Recovery.{Recovery}
 use Rattle.spec_flights.specs.declared.reports.Reports.{Reports}
 use Rattle.spec_flights.specs.declared.sides.Sides.{Sides}
 use Rattle.spec_flights.specs.declared.stretch.Stretch.{Stretch}
-use Rattle.flights.proofs.SetLemmas.{read_back}
+use Rattle.flight_parts.proofs.SetLemmas.{read_back}
 use Rattle.kept_flights.specs.Reported.{Holds, is_within, reports}
 
 -- ---- both SYNs, and fast recovery

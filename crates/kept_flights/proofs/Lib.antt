@@ -11,6 +11,7 @@ pub mod Accepted
 pub mod Plain
 pub mod Begun
 pub mod Always
+pub mod Done
 pub mod Stays
 pub mod FirstNumbers
 pub mod Knowing

@@ -1,5 +1,5 @@
 -- What a step marks, and what stays marked.
-use Rattle.std.proofs.Common.{◌≡◌, ℕ, ◌<◌, ◌⊎◌, inl, inr, Bool, true, false, List, refl, ap, sym, ◌∙◌, arith}
+use Rattle.std.proofs.Common.{◌≡◌, ℕ, ◌<◌, ◌⊎◌, inl, inr, Bool, true, false, List, Option, Some, None, refl, ap, sym, subst, ◌∙◌, arith}
 use Rattle.std.specs.Prelude.{◌||◌, if◌then◌else◌, not}
 use Rattle.std.specs.Cmp.{nat_cmp_total}
 use Rattle.std.specs.FinSet.{FinSet, contains, contains-difference, contains-union, difference, from_list, union}
@@ -16,7 +16,10 @@ use Rattle.spec_duties.specs.declared.events.Event.TheVariants.{Expires, Process
 use Rattle.spec_duties.specs.declared.observations.SynChange.{SynChange}
 use Rattle.spec_duties.specs.declared.observations.SynChange.TheVariants as syn_change
 use Rattle.spec_duties.specs.declared.views.View.{View}
-use Rattle.spec_flights.specs.Delivered.{without_reports}
+use Rattle.spec_duties.specs.declared.observations.Block.{Block}
+use Rattle.spec_duties.specs.declared.observations.Blocks.{Blocks}
+use Rattle.spec_flights.specs.Delivered.{read_reports, report_of, without_reports}
+use Rattle.spec_flights.specs.Sides.{are_selective}
 use Rattle.spec_flights.specs.Flights.{Flight, marks_oldest, repairs_plainly}
 use Rattle.spec_flights.specs.Marks.{marked_by, marked_by_event, marks_after, oldest_segment, own_syn, taken_by}
 use Rattle.spec_flights.specs.Stretches.{no_positions}
@@ -24,7 +27,8 @@ use Rattle.spec_flights.specs.declared.recovery.Recovery.{Recovery}
 use Rattle.spec_flights.specs.declared.reports.Reports.{Reports}
 use Rattle.spec_flights.specs.declared.sides.Sides.{Sides}
 use Rattle.spec_flights.specs.declared.stretch.Stretch.{Stretch}
-use Rattle.flights.proofs.SetLemmas.{read_back}
+use Rattle.flight_parts.proofs.SetLemmas.{read_back}
+use Rattle.kept_flights.specs.Reported.{is_within, reports}
 use Rattle.kept_flights.proofs.Kept.{holds}
 
 module _ (p : ℕ) where
@@ -33,7 +37,7 @@ module _ (p : ℕ) where
 
   -- ---- what stays marked was, and isn't taken; or it is marked now
 
-  kept : (s t : FinSet nat_cmp) → contains (difference s t) p ≡ true → contains s p ≡ true
+  pub kept : (s t : FinSet nat_cmp) → contains (difference s t) p ≡ true → contains s p ≡ true
   kept s t is = (both_true (contains s p) (not (contains t p)) (sym (contains-difference nat_cmp_total s t p) ∙ is)).0
 
   kept_out : (s : FinSet nat_cmp) (t : Stretch) → contains (difference s (span t.from t.upto)) p ≡ true → holds p t ≡ false
@@ -46,7 +50,7 @@ module _ (p : ℕ) where
       kept s (span r.first.from r.first.upto) (kept _ (span r.second.from r.second.upto)
       (kept _ (span r.third.from r.third.upto) (kept _ (span r.fourth.from r.fourth.upto) is)))
 
-  in_either : (s : FinSet nat_cmp) (t : Stretch) → contains (union s (span t.from t.upto)) p ≡ true → (contains s p ≡ true) ⊎ (holds p t ≡ true)
+  pub in_either : (s : FinSet nat_cmp) (t : Stretch) → contains (union s (span t.from t.upto)) p ≡ true → (contains s p ≡ true) ⊎ (holds p t ≡ true)
   in_either s t is =
       by (contains s p) refl
       (sym (contains-union nat_cmp_total s (span t.from t.upto) p ∙ ap (λ b. contains s p || b) (contains-span t.from t.upto p)) ∙ is)
@@ -55,27 +59,77 @@ module _ (p : ℕ) where
       by true here all = inl here
       by false out all = inr (sym (ap (λ b. b || holds p t) out) ∙ all)
 
+  -- what is marked before a step, and isn't taken by it, nor reported
+  abbrev left_by : (event : Event) (before : View) → Reports → (marks : List ℕ) → FinSet nat_cmp
+  left_by event before r marks =
+      without_reports (difference (from_list marks) (span (taken_by event before).from (taken_by event before).upto)) r
+
+  marked_or : (change : SynChange) (event : Event) (before after : View) (r : Reports) (oldest : Bool) (marks : List ℕ)
+      → IsMarked (marks_after change event before after r oldest marks)
+      → (contains (left_by event before r marks) p ≡ true) ⊎ (holds p (marked_by change event after oldest) ≡ true)
+  marked_or change event before after r oldest marks is =
+      in_either (left_by event before r marks) marked
+      (kept (union (left_by event before r marks) (span marked.from marked.upto)) (span 0 after.snd_una)
+      (sym (ap (λ (t : FinSet nat_cmp). contains t p)
+      (read_back (difference (union (left_by event before r marks) (span marked.from marked.upto)) (span 0 after.snd_una)))) ∙ is))
+    where
+      marked : Stretch
+      marked = marked_by change event after oldest
+
   pub marked_from : (change : SynChange) (event : Event) (before after : View) (r : Reports) (oldest : Bool) (marks : List ℕ)
       → IsMarked (marks_after change event before after r oldest marks)
       → (IsMarked marks × (holds p (taken_by event before) ≡ false)) ⊎ (holds p (marked_by change event after oldest) ≡ true)
-  marked_from change event before after r oldest marks is =
-      by (in_either left marked (kept (union left (span marked.from marked.upto)) (span 0 after.snd_una)
-      (sym (ap (λ (t : FinSet nat_cmp). contains t p) (read_back (difference (union left (span marked.from marked.upto)) (span 0 after.snd_una)))) ∙ is)))
+  marked_from change event before after r oldest marks is = by (marked_or change event before after r oldest marks is)
     where
       taken : Stretch
       taken = taken_by event before
 
-      marked : Stretch
-      marked = marked_by change event after oldest
-
-      left : FinSet nat_cmp
-      left = without_reports (difference (from_list marks) (span taken.from taken.upto)) r
-
-      by : (contains left p ≡ true) ⊎ (holds p marked ≡ true) → (IsMarked marks × (holds p taken ≡ false)) ⊎ (holds p marked ≡ true)
+      by : (contains (left_by event before r marks) p ≡ true) ⊎ (holds p (marked_by change event after oldest) ≡ true)
+          → (IsMarked marks × (holds p taken ≡ false)) ⊎ (holds p (marked_by change event after oldest) ≡ true)
       by (inl here) =
           let rest = unreported (difference (from_list marks) (span taken.from taken.upto)) r here in
           inl (kept (from_list marks) (span taken.from taken.upto) rest, kept_out (from_list marks) taken rest)
       by (inr now) = inr now
+
+  -- ---- what is reported now is marked only if it is marked now
+
+  no_block : (b : Option Block) → holds p (report_of b) ≡ false → is_within p b ≡ false
+  no_block None out = refl
+  no_block (Some k) out = out
+
+  abbrev all_of : Blocks → Reports
+  all_of k = record {
+    first = report_of k.first;
+    second = report_of k.second;
+    third = report_of k.third;
+    fourth = report_of k.fourth;
+  }
+
+  not_reported : (s : FinSet nat_cmp) (k : Blocks) → contains (without_reports s (all_of k)) p ≡ true → reports k p ≡ false
+  not_reported s k is =
+      let fourth = no_block k.fourth (kept_out _ (report_of k.fourth) is) in
+      let three = kept _ (span (report_of k.fourth).from (report_of k.fourth).upto) is in
+      let third = no_block k.third (kept_out _ (report_of k.third) three) in
+      let two = kept _ (span (report_of k.third).from (report_of k.third).upto) three in
+      let second = no_block k.second (kept_out _ (report_of k.second) two) in
+      let one = kept _ (span (report_of k.second).from (report_of k.second).upto) two in
+      let first = no_block k.first (kept_out s (report_of k.first) one) in
+      (λ i. first i || second i || third i || fourth i)
+
+  pub marked_now : (change : SynChange) (event : Event) (before after : View) (sides : Sides) (k : Blocks) (oldest : Bool) (marks : List ℕ)
+      → are_selective sides ≡ true → reports k p ≡ true → IsMarked (marks_after change event before after (read_reports sides k) oldest marks)
+      → holds p (marked_by change event after oldest) ≡ true
+  marked_now change event before after sides k oldest marks both told is =
+      by (marked_or change event before after (all_of k) oldest marks
+      (subst
+      (λ (c : Bool). IsMarked (marks_after change event before after
+      (if c then all_of k else record { first = no_positions; second = no_positions; third = no_positions; fourth = no_positions }) oldest marks))
+      both is))
+    where
+      by : (contains (left_by event before (all_of k) marks) p ≡ true) ⊎ (holds p (marked_by change event after oldest) ≡ true)
+          → holds p (marked_by change event after oldest) ≡ true
+      by (inl left) = let bad : true ≡ false = sym told ∙ not_reported _ k left in absurd cc
+      by (inr now) = now
 
   -- ---- what is marked was sent
 

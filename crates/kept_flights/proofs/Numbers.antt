@@ -1,9 +1,9 @@
 -- Under which number a position was built last: after building it, this is the new number; and it is above what is given up, until something is.
 use Rattle.std.proofs.Common.{◌≡◌, ℕ, zero, suc, ◌+◌, ◌-◌, ◌<◌, ◌≤◌, ◌⊎◌, inl, inr, min, Bool, true, false, List, [], ◌∷◌, ◌++◌, length, take, drop, map}
-use Rattle.std.proofs.Common.{Option, Some, None, refl, ap, sym, subst, ◌∙◌, arith}
+use Rattle.std.proofs.Common.{Option, Some, None, length-drop, refl, ap, sym, subst, ◌∙◌, arith}
 use Rattle.std.specs.Prelude.{◌&&◌, ◌||◌, if◌then◌else◌, nat_le, nat_lt, slice_get}
 use Rattle.std.proofs.lemmas.Bool.Decides.{nat_tests}
-use Rattle.std.proofs.lemmas.List.{length-map, length-take}
+use Rattle.std.proofs.lemmas.List.{length-append, length-map, length-take}
 use Rattle.std.proofs.lemmas.Option.{none-some, same_Some, slice_get_past, slice_get_within}
 use Rattle.case_forms.specs.States.{is_syn_sent}
 use Rattle.case_forms.specs.declared.steps.SegmentPlan.{SegmentPlan}
@@ -28,7 +28,8 @@ use Rattle.spec_flights.specs.declared.stretch.Stretch.{Stretch}
 
 -- ---- lists
 
-covered_some : {X : Type 0} (n : ℕ) (xs : List (Option X)) (i : ℕ) (x : X) → slice_get (covered None n xs) i ≡ Some (Some x) → slice_get xs i ≡ Some (Some x)
+pub covered_some : {X : Type 0} (n : ℕ) (xs : List (Option X)) (i : ℕ) (x : X)
+    → slice_get (covered None n xs) i ≡ Some (Some x) → slice_get xs i ≡ Some (Some x)
 covered_some zero xs i x is = is
 covered_some (suc n) [] i x is = is
 covered_some {X} (suc n) (y ∷ xs) zero x is = absurd (none-some x (same_Some None (Some x) is))
@@ -49,8 +50,15 @@ get_either {X} (x ∷ xs) ys (suc i) y is = by (get_either xs ys i y is)
 
 -- ---- what is built has the number
 
-abbrev HasNumber : (number : ℕ) → Option Outstanding → Type 0
+abbrev pub HasNumber : (number : ℕ) → Option Outstanding → Type 0
 HasNumber number y = (x : Outstanding) × (y ≡ Some x) × (x.number ≡ number)
+
+pub has_number : (number : ℕ) (x : Outstanding) → HasNumber number (Some x) → x.number ≡ number
+has_number number x has = ap (λ (z : Outstanding). z.number) (same_Some x has.0 has.1) ∙ has.2
+
+-- it is one of the positions that are built
+abbrev pub IsNew : (position upto number : ℕ) → (i : ℕ) → Option Outstanding → Type 0
+IsNew position upto number i y = HasNumber number y × (position ≤ i) × (i < upto)
 
 alike_number : (x : Outstanding) (n i : ℕ) (y : Option Outstanding) → slice_get (map (λ z. Some z) (alike x n)) i ≡ Some y → HasNumber x.number y
 alike_number x zero i y is = absurd (none-some y is)
@@ -60,7 +68,7 @@ alike_number x (suc (suc n)) zero y is = (inner x, sym (same_Some (Some (inner x
 alike_number x (suc (suc n)) (suc i) y is = alike_number x (suc n) i y is
 
 -- outside of what is built, as before
-abbrev IsOld : (position upto : ℕ) → List (Option Outstanding) → (i : ℕ) → Option Outstanding → Type 0
+abbrev pub IsOld : (position upto : ℕ) → List (Option Outstanding) → (i : ℕ) → Option Outstanding → Type 0
 IsOld position upto all i y = (slice_get all i ≡ Some y) × ((i < position) ⊎ (upto ≤ i))
 
 module _ (position upto number moment : ℕ) (all : List (Option Outstanding)) (some : position < upto) (low : position ≤ length all) where
@@ -81,6 +89,19 @@ module _ (position upto number moment : ℕ) (all : List (Option Outstanding)) (
       length-map (alike (built_again number moment (nat_le upto (length all))) (min upto (length all) - position)) (λ x. Some x)
       ∙ length_alike (built_again number moment (nat_le upto (length all))) (min upto (length all) - position)
 
+  built_long : length (begun ++ (again ++ rest)) ≡ length all
+  built_long =
+      let first = begun_long in
+      let second = again_long in
+      let third = length-drop (min upto (length all)) all in
+      let both = length-append again rest in
+      let three = length-append begun (again ++ rest) in
+      omega (arith, first, second, third, both, three, some, low)
+
+  first_long : length (made_first upto number moment all) ≡ upto - length all
+  first_long =
+      length-map (alike (built_first number moment) (upto - length all)) (λ x. Some x) ∙ length_alike (built_first number moment) (upto - length all)
+
   in_rest : (i j : ℕ) (y : Option Outstanding) → length again ≤ j → j ≡ i - position → position ≤ i → slice_get rest (j - length again) ≡ Some y
       → IsOld position upto all i y
   in_rest i j y over place above is =
@@ -92,18 +113,24 @@ module _ (position upto number moment : ℕ) (all : List (Option Outstanding)) (
       (here, inr (omega (arith, same, within)))
 
   pub made_is : (i : ℕ) (y : Option Outstanding) → slice_get (made position upto number moment all) i ≡ Some y
-      → IsOld position upto all i y ⊎ HasNumber number y
+      → IsOld position upto all i y ⊎ IsNew position upto number i y
   made_is i y is = first (get_either (begun ++ (again ++ rest)) (made_first upto number moment all) i y is)
     where
       third : (j : ℕ) → j ≡ i - position → position ≤ i
           → (slice_get again j ≡ Some y) ⊎ ((length again ≤ j) × (slice_get rest (j - length again) ≡ Some y))
-          → IsOld position upto all i y ⊎ HasNumber number y
+          → IsOld position upto all i y ⊎ IsNew position upto number i y
       third j place above (inl here) =
-          inr (alike_number (built_again number moment (nat_le upto (length all))) (min upto (length all) - position) j y here)
+          let within = slice_get_within again j y here in
+          let long = again_long in
+          inr (
+            alike_number (built_again number moment (nat_le upto (length all))) (min upto (length all) - position) j y here,
+            above,
+            omega (arith, place, above, within, long),
+          )
       third j place above (inr there) = inl (in_rest i j y there.0 place above there.1)
 
       second : (slice_get begun i ≡ Some y) ⊎ ((length begun ≤ i) × (slice_get (again ++ rest) (i - length begun) ≡ Some y))
-          → IsOld position upto all i y ⊎ HasNumber number y
+          → IsOld position upto all i y ⊎ IsNew position upto number i y
       second (inl here) =
           let within = slice_get_within begun i y here in
           let long = begun_long in
@@ -115,9 +142,18 @@ module _ (position upto number moment : ℕ) (all : List (Option Outstanding)) (
 
       first : (slice_get (begun ++ (again ++ rest)) i ≡ Some y)
           ⊎ ((length (begun ++ (again ++ rest)) ≤ i) × (slice_get (made_first upto number moment all) (i - length (begun ++ (again ++ rest))) ≡ Some y))
-          → IsOld position upto all i y ⊎ HasNumber number y
+          → IsOld position upto all i y ⊎ IsNew position upto number i y
       first (inl here) = second (get_either begun (again ++ rest) i y here)
-      first (inr there) = inr (alike_number (built_first number moment) (upto - length all) _ y there.1)
+      first (inr there) =
+          let within = slice_get_within (made_first upto number moment all) (i - length (begun ++ (again ++ rest))) y there.1 in
+          let long = first_long in
+          let whole = built_long in
+          let over = there.0 in
+          inr (
+            alike_number (built_first number moment) (upto - length all) _ y there.1,
+            omega (arith, whole, over, low),
+            omega (arith, within, long, whole, over),
+          )
 
 -- ---- nothing is unknown from the oldest unacknowledged position on
 
@@ -139,7 +175,7 @@ whole_from una place b whole low = by (nat_le (acknowledged b.known) place) refl
         let under : place < acknowledged b.known = grind (arith, nat_tests, is) in
         absurd (whole place low (acknowledged_none b.known place under))
 
-abbrev built_board : (number moment : ℕ) → Stretch → Scoreboard → Scoreboard
+abbrev pub built_board : (number moment : ℕ) → Stretch → Scoreboard → Scoreboard
 built_board number moment s b = record b {
   known = made s.from s.upto number moment b.known;
   told = left_without b.told s.from s.upto;
@@ -149,12 +185,12 @@ built_board number moment s b = record b {
 }
 
 -- the segment holds positions, and none is left out before it
-record Fits (s : Stretch) (b : Scoreboard) : Type 0 where
+pub record Fits (s : Stretch) (b : Scoreboard) : Type 0 where
   pub some : s.from < s.upto
   pub low : s.from ≤ length b.known
 
 -- what holds of both
-built_cases : (P : Scoreboard → Type 0) (number moment : ℕ) (s : Stretch) (b : Scoreboard) → P b → (Fits s b → P (built_board number moment s b))
+pub built_cases : (P : Scoreboard → Type 0) (number moment : ℕ) (s : Stretch) (b : Scoreboard) → P b → (Fits s b → P (built_board number moment s b))
     → P (with_built number moment s b)
 built_cases P number moment s b old new = by (nat_lt s.from s.upto && nat_le (acknowledged b.known) s.from && nat_le s.from (length b.known)) refl
   where
@@ -163,7 +199,7 @@ built_cases P number moment s b old new = by (nat_lt s.from s.upto && nat_le (ac
     by false is = old
     by true is = new (record { some = grind (arith, nat_tests, is); low = grind (arith, nat_tests, is) })
 
-heard_cases : (P : Scoreboard → Type 0) (moment clock : ℕ) (recovers rst : Bool) (before after : View) (r : Reports) (b : Scoreboard)
+pub heard_cases : (P : Scoreboard → Type 0) (moment clock : ℕ) (recovers rst : Bool) (before after : View) (r : Reports) (b : Scoreboard)
     → P (record b { known = known_from after.snd_una b.known }) → P (heard moment before.snd_una after.snd_una r (settled recovers clock b))
     → P (board_heard moment clock recovers rst before after r b)
 heard_cases P moment clock recovers rst before after r b short long = by (rst || is_syn_sent before.state)
@@ -173,7 +209,7 @@ heard_cases P moment clock recovers rst before after r b short long = by (rst ||
     by true = short
     by false = long
 
-opened_cases : (P : Scoreboard → Type 0) (before after : View) (b : Scoreboard) → P b → (opens_probed before after ≡ true → P (with_given_up b))
+pub opened_cases : (P : Scoreboard → Type 0) (before after : View) (b : Scoreboard) → P b → (opens_probed before after ≡ true → P (with_given_up b))
     → P (board_opened before after b)
 opened_cases P before after b old new = by (opens_probed before after) refl
   where
@@ -213,9 +249,9 @@ module _ (moment clock : ℕ) (recovers : Bool) (number : ℕ) where
       fills : (s : Stretch) → Fits s b → (i : ℕ) → after.snd_una ≤ i → slice_get (made s.from s.upto number moment b.known) i ≡ Some None → ⊥
       fills s fits i low is = cases (made_is s.from s.upto number moment b.known fits.some fits.low i None is)
         where
-          cases : IsOld s.from s.upto b.known i None ⊎ HasNumber number None → ⊥
+          cases : IsOld s.from s.upto b.known i None ⊎ IsNew s.from s.upto number i None → ⊥
           cases (inl old) = above i low old.0
-          cases (inr new) = none-some new.0 new.1
+          cases (inr new) = none-some new.0.0 new.0.1
 
       by : (event : Event) → IsWhole after.snd_una (board event before after r b)
       by (Processes length rst) =
@@ -280,11 +316,9 @@ module _ (moment clock : ℕ) (recovers : Bool) (number : ℕ) where
             → b.given_up < x.number
         fills s fits less x is = cases (made_is s.from s.upto number moment b.known fits.some fits.low p (Some x) is)
           where
-            cases : IsOld s.from s.upto b.known p (Some x) ⊎ HasNumber number (Some x) → b.given_up < x.number
+            cases : IsOld s.from s.upto b.known p (Some x) ⊎ IsNew s.from s.upto number p (Some x) → b.given_up < x.number
             cases (inl old) = above x old.0
-            cases (inr new) =
-                let same : x ≡ new.0 = same_Some x new.0 new.1 in
-                subst (λ (n : ℕ). b.given_up < n) (sym (ap (λ (z : Outstanding). z.number) same ∙ new.2)) less
+            cases (inr new) = subst (λ (n : ℕ). b.given_up < n) (sym (has_number number x new.0)) less
 
         by : (event : Event) → GivesUpNothing event before after → ((m : SegmentPlan) → event ≡ Builds m → b.given_up < number)
             → IsAbove p (board event before after r b)
@@ -308,12 +342,10 @@ module _ (moment clock : ℕ) (recovers : Bool) (number : ℕ) where
         some : nat_lt s.from s.upto ≡ true
         some = grind (arith, nat_tests, low, high)
 
-        cases : (x : Outstanding) → IsOld s.from s.upto b.known p (Some x) ⊎ HasNumber number (Some x) → b.given_up < x.number
+        cases : (x : Outstanding) → IsOld s.from s.upto b.known p (Some x) ⊎ IsNew s.from s.upto number p (Some x) → b.given_up < x.number
         cases x (inl (is, inl under)) = absurd (omega (arith, low, under))
         cases x (inl (is, inr over)) = absurd (omega (arith, high, over))
-        cases x (inr new) =
-            let same : x ≡ new.0 = same_Some x new.0 new.1 in
-            subst (λ (n : ℕ). b.given_up < n) (sym (ap (λ (z : Outstanding). z.number) same ∙ new.2)) less
+        cases x (inr new) = subst (λ (n : ℕ). b.given_up < n) (sym (has_number number x new.0)) less
 
         by : (c : Bool) → nat_le s.from (length b.known) ≡ c → IsAbove p (with_built number moment s b)
         by true fits =

@@ -140,24 +140,27 @@ module _ (h : Header) (xs : List (Stamped tcp_shape)) (me : EndpointId) where
         (λ n old moment clock event before here.
         permitted_after n event before here (observed h xs n).syn_change (flight_before h xs n me).sides refl old)
 
+    pub both_permit : (place : ℕ) → are_selective (flight_before h xs place me).sides ≡ true → BothPermit h xs place me
+    both_permit place is =
+        let both = both_true (flight_before h xs place me).sides.own (flight_before h xs place me).sides.peers is in
+        let mine = (permitted place).own both.0 in
+        let theirs = (permitted place).peers both.1 in
+        record {
+          sent = mine.at;
+          sent_before = mine.at_before;
+          sends = mine.syn;
+          taken = theirs.at;
+          taken_before = theirs.at_before;
+          alone = theirs.alone;
+          takes = theirs.syn;
+        }
+
     pub plain : (place : ℕ) → (BothPermit h xs place me → ⊥) → are_selective (flight_before h xs place me).sides ≡ false
     plain place none = by (are_selective (flight_before h xs place me).sides) refl
       where
         by : (b : Bool) → are_selective (flight_before h xs place me).sides ≡ b → b ≡ false
         by false is = refl
-        by true is =
-            let both = both_true (flight_before h xs place me).sides.own (flight_before h xs place me).sides.peers is in
-            let mine = (permitted place).own both.0 in
-            let theirs = (permitted place).peers both.1 in
-            absurd (none (record {
-              sent = mine.at;
-              sent_before = mine.at_before;
-              sends = mine.syn;
-              taken = theirs.at;
-              taken_before = theirs.at_before;
-              alone = theirs.alone;
-              takes = theirs.syn;
-            }))
+        by true is = absurd (none (both_permit place is))
 
     -- ---- probes
 

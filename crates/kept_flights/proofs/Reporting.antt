@@ -1,8 +1,9 @@
 -- The blocks that are sent are true.
-use Rattle.std.proofs.Common.{◌≡◌, ℕ, zero, suc, ◌<◌, ◌≤◌, ◌⊎◌, inl, inr, max, Bool, true, false, List, [], ◌∷◌}
+use Rattle.std.proofs.Common.{◌≡◌, ℕ, zero, suc, ◌<◌, ◌≤◌, ◌⊎◌, inl, inr, max, Bool, true, false, List, [], ◌∷◌, ◌++◌}
 use Rattle.std.proofs.Common.{Option, None, Some, refl, ap, sym, subst, ◌∙◌, nat_eq, arith}
 use Rattle.std.specs.Prelude.{◌&&◌, ◌||◌, if◌then◌else◌, is_some, nat_lt, not, slice_get}
 use Rattle.std.specs.FinSet.{FinSet, contains, from_list}
+use Rattle.std.specs.List.{AllByRecursion}
 use Rattle.std.specs.Map.{lookup}
 use Rattle.std.specs.Option.{option_and_then, option_map, option_map_or}
 use Rattle.std.specs.Ordering.{nat_cmp}
@@ -32,17 +33,19 @@ use Rattle.spec_tcp.specs.declared.endpoint.Endpoint.{Endpoint}
 use Rattle.spec_tcp.specs.declared.endpoint.EndpointId.{EndpointId}
 use Rattle.spec_tcp_laws.specs.Consequences.{find}
 use Rattle.spec_duties.specs.Observations.{at_place, at_sender, observe, sending_of, syn_sent, unseen}
-use Rattle.spec_duties.specs.Arrivals.{stamps_read}
+use Rattle.spec_duties.specs.Arrivals.{acked_sent, stamps_read}
 use Rattle.spec_duties.specs.Owed.{late_rules}
 use Rattle.spec_duties.specs.Sampling.{is_sample_due}
 use Rattle.spec_duties.specs.Strict.{brought_by}
 use Rattle.spec_duties.specs.Views.{unborn, view_of}
 use Rattle.spec_duties.specs.Watching.{Duties, answer_rules, built_by, counts_now, drops_needed, duty_rules, judged_lates, leaves_late}
-use Rattle.spec_duties.specs.Watching.{limit_rules, owed_by, sends_in_excess, sent_by, sent_late, strict_by, touched_rules}
+use Rattle.spec_duties.specs.Watching.{limit_rules, owed_by, sends_in_excess, sent_by, sent_late, strict_by, touched_rules, untrue_rules}
 use Rattle.spec_duties.specs.declared.events.Event.{Event}
 use Rattle.spec_duties.specs.declared.observations.BuiltChange.TheVariants as built_change
 use Rattle.spec_duties.specs.declared.observations.Observation.{Observation}
 use Rattle.spec_duties.specs.declared.observations.TouchedEndpoint.{TouchedEndpoint}
+use Rattle.spec_duties.specs.declared.observations.Untruth.{Untruth}
+use Rattle.spec_duties.specs.declared.observations.Untruth.TheVariants as untruth
 use Rattle.spec_duties.specs.declared.owed.Owed.{Owed}
 use Rattle.spec_duties.specs.declared.views.View.{View}
 use Rattle.spec_flights.specs.Flights.{sends_untrue}
@@ -54,24 +57,32 @@ use Rattle.kept_flights.proofs.Keeping.{held_was_kept, peer_permits}
 use Rattle.kept_flights.proofs.Knowing.{knows_then}
 use Rattle.kept_flights.proofs.Runs.{dutiful_there, flight_before, flight_in, known_before, model_is, touched}
 
--- ---- rule 53 is judged at each step, at whatever slack
+-- ---- rules 53 to 55 are judged at each step, at whatever slack
 
-judged_false : (h : Header) (moment : ℕ) (d : Duties) (untrue : Bool) (s : Observation) → first_broken (judged_rules h moment d untrue s) ≡ None
-    → untrue ≡ false
-judged_false h moment d untrue s = by h.slack
+judged_none : (h : Header) (moment : ℕ) (d : Duties) (untrue : Option Untruth) (s : Observation) → first_broken (judged_rules h moment d untrue s) ≡ None
+    → untrue ≡ None
+judged_none h moment d untrue s = by h.slack
   where
-    limits : (t : TouchedEndpoint) (counts lacks due : Bool) (o : Owed) → first_broken (limit_rules h t counts lacks untrue due o) ≡ None → untrue ≡ false
-    limits t counts lacks due o e = (none_all (limit_rules h t counts lacks untrue due o) e).1.1.1.0
+    first : (o : Option Untruth) (rest : List (Rule × Bool)) → AllByRecursion (λ r. r.1 ≡ false) (untrue_rules o ++ rest) → o ≡ None
+    first None rest all = refl
+    first (Some untruth) rest all = let is : true ≡ false = all.0 in absurd cc
+
+    alone : (o : Option Untruth) → first_broken (untrue_rules o) ≡ None → o ≡ None
+    alone None e = refl
+    alone (Some untruth) e = absurd cc
+
+    limits : (t : TouchedEndpoint) (counts lacks due : Bool) (o : Owed) → first_broken (limit_rules h t counts lacks untrue due o) ≡ None → untrue ≡ None
+    limits t counts lacks due o e = first untrue _ (none_all (limit_rules h t counts lacks untrue due o) e).1.1.1
 
     of_rules : (slack : ℕ) (o : Option TouchedEndpoint) (w x y z : Rule × Bool) (f : TouchedEndpoint → List (Rule × Bool))
-        → ((t : TouchedEndpoint) → first_broken (f t) ≡ None → untrue ≡ false)
-        → first_broken (w ∷ x ∷ y ∷ z ∷ on o (answer_rules slack moment d untrue s.call_change) f) ≡ None → untrue ≡ false
+        → ((t : TouchedEndpoint) → first_broken (f t) ≡ None → untrue ≡ None)
+        → first_broken (w ∷ x ∷ y ∷ z ∷ on o (answer_rules slack moment d untrue s.call_change) f) ≡ None → untrue ≡ None
     of_rules slack None w x y z f each e =
-        (none_all (w ∷ x ∷ y ∷ z ∷ answer_rules slack moment d untrue s.call_change) e).1.1.1.1.0
+        first untrue _ (none_all (w ∷ x ∷ y ∷ z ∷ answer_rules slack moment d untrue s.call_change) e).1.1.1.1
     of_rules slack (Some t) w x y z f each e = each t (none_both (w ∷ x ∷ y ∷ z ∷ []) (f t) e).1
 
-    by : (o : Option ℕ) → first_broken (on o ((rules.SackUntrue, untrue) ∷ []) (λ slack. duty_rules h slack moment d untrue s)) ≡ None → untrue ≡ false
-    by None e = (none_all ((rules.SackUntrue, untrue) ∷ []) e).0
+    by : (o : Option ℕ) → first_broken (on o (untrue_rules untrue) (λ slack. duty_rules h slack moment d untrue s)) ≡ None → untrue ≡ None
+    by None e = alone untrue e
     by (Some slack) e =
         of_rules slack s.touched (rules.Dropped, drops_needed d s.dropping) (rules.Discarded, s.discards)
         (rules.ProcessLate, leaves_late slack moment d s.inbox_change) (rules.SendLate, sent_late slack moment (built_by d s.built_change))
@@ -237,16 +248,21 @@ sender h moment w me line number wire event before = by (lookup (nat_eq number) 
           built_change = built_change.Sends number;
           syn_change = syn_sent h.version m.emission wire.bytes;
           stamps = stamps_read h.version wire.bytes;
+          acked = acked_sent h.version wire m.emission;
         })).touched ≡ Some (touched me event before) → Sender w me number
     by None waits here = absurd (none-some (touched me event before) here)
     by (Some m) waits here = at m waits m.emission.is_reset_reply refl here
 
 -- its blocks aren't untrue
-not_untrue : (h : Header) (k : Known) (me : EndpointId) (line number : ℕ) (wire : Wire) → says_sender h.version ≡ true
-    → untrue_at h k (At me.host (Sends line number wire)) ≡ false → (s : Sender k.model me number)
+blocks_true : (b : Bool) (other : Option Untruth) → (if b then Some untruth.Blocks else other) ≡ None → b ≡ false
+blocks_true true other e = absurd cc
+blocks_true false other e = refl
+
+not_untrue : (h : Header) (moment : ℕ) (k : Known) (me : EndpointId) (line number : ℕ) (wire : Wire) → says_sender h.version ≡ true
+    → untrue_at h moment k (At me.host (Sends line number wire)) ≡ None → (s : Sender k.model me number)
     → is_untrue (flight_in k.flights me).sides.peers (from_list (flight_in k.flights me).held) (rcv_nxt s.endpoint) s.endpoint.irs (sack_blocks wire.bytes)
     ≡ false
-not_untrue h k me line number wire six is s =
+not_untrue h moment k me line number wire six is s =
     sym
     (ap (λ (b : Bool). b && untrue_sent k.flights me.host (pick k.model.hosts me.host) number wire) six
     ∙ ap (λ (o : Option (Made Emission)). option_map_or (λ m. untrue_from k.flights me.host (pick k.model.hosts me.host).body wire m.emission) o false)
@@ -257,7 +273,7 @@ not_untrue h k me line number wire six is s =
     ∙ ap (λ (n : ℕ). option_map_or (λ e. sends_untrue k.flights me.host n e wire.bytes) (slice_get (pick k.model.hosts me.host).body.endpoints n) false)
     s.mine
     ∙ ap (λ (o : Option Endpoint). option_map_or (λ e. sends_untrue k.flights me.host me.number e wire.bytes) o false) s.there)
-    ∙ is
+    ∙ blocks_true (says_sender h.version && untrue_sent k.flights me.host (pick k.model.hosts me.host) number wire) _ is
 
 -- ---- along a run
 
@@ -282,12 +298,12 @@ module _ (h : Header) (xs : List (Stamped tcp_shape)) (six : says_sender h.versi
       ∙ ap (λ (o : Observation). o.touched) (sym is) ∙ s.happens) in
       let duties =
       (dutiful_there h xs may place (record { moment = s.step.0; step = At me.host (Sends s.line s.number wire) }) s.step.1).duties in
-      let calm : untrue_at h k (At me.host (Sends s.line s.number wire)) ≡ false =
-      judged_false h s.step.0 k.duties (untrue_at h k (At me.host (Sends s.line s.number wire)))
+      let calm : untrue_at h s.step.0 k (At me.host (Sends s.line s.number wire)) ≡ None =
+      judged_none h s.step.0 k.duties (untrue_at h s.step.0 k (At me.host (Sends s.line s.number wire)))
       (shown_by h s.step.0 k (At me.host (Sends s.line s.number wire))) duties in
       let j =
       judged (flight_before h xs place me).sides.peers (from_list (flight_before h xs place me).held) (rcv_nxt who.endpoint) who.endpoint.irs
-      (sack_blocks wire.bytes) number block less there (not_untrue h k me s.line s.number wire six calm who) in
+      (sack_blocks wire.bytes) number block less there (not_untrue h s.step.0 k me s.line s.number wire six calm who) in
       let found : find (world_before h xs place).hosts me ≡ Some who.endpoint =
       ap (λ (w : World tcp_shape). find w.hosts me) (sym (model_is h xs place)) ∙ who.there in
       let permits = peer_permits h xs six me place j.permits in

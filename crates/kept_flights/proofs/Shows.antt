@@ -11,6 +11,7 @@ use Rattle.case_forms.specs.declared.calls.Call.{Call}
 use Rattle.case_forms.specs.declared.calls.Call.TheVariants as calls
 use Rattle.case_forms.specs.declared.calls.Host.{Host}
 use Rattle.case_forms.specs.declared.steps.SegmentPlan.{SegmentPlan}
+use Rattle.case_forms.specs.declared.timer.RecoveryChange.{RecoveryChange}
 use Rattle.case_forms.specs.declared.timer.Timer.TheVariants.{Pto}
 use Rattle.case_forms.specs.declared.trace.Header.{Header}
 use Rattle.case_forms.specs.declared.trace.Wire.{Wire}
@@ -29,11 +30,12 @@ use Rattle.spec_tcp.specs.declared.endpoint.Endpoint.{Endpoint}
 use Rattle.spec_tcp.specs.declared.endpoint.EndpointId.{EndpointId}
 use Rattle.spec_tcp.specs.declared.endpoint.SocketTarget.{SocketTarget}
 use Rattle.spec_tcp.specs.declared.endpoint.SocketTarget.TheVariants.{EndpointAt, ListenerAt}
+use Rattle.spec_tcp_laws.specs.Consequences.{find}
 use Rattle.spec_tcp_laws.proofs.Rules.{on_cases}
 use Rattle.spec_duties.specs.Dropped.{asks, has_content, reads_old_numbers}
 use Rattle.spec_duties.specs.Observations.{at_drop, at_place, at_ports, at_sender, at_target, is_done, observe, observe_accept, observe_call, observe_close}
 use Rattle.spec_duties.specs.Observations.{observe_effect, observe_opened, observe_other, processing_of, sending_of, unseen}
-use Rattle.spec_duties.specs.Views.{view_of}
+use Rattle.spec_duties.specs.Views.{unborn, view_of}
 use Rattle.spec_duties.specs.declared.events.Event.{Event}
 use Rattle.spec_duties.specs.declared.events.Event.TheVariants.{Builds, Calls, Drops, Expires, Recovers}
 use Rattle.spec_duties.specs.declared.observations.Observation.{Observation}
@@ -42,16 +44,17 @@ use Rattle.spec_duties.specs.declared.observations.SynChange.TheVariants as syn_
 use Rattle.spec_duties.specs.declared.observations.TouchedEndpoint.{TouchedEndpoint}
 use Rattle.spec_duties.specs.declared.views.View.{View}
 use Rattle.spec_flights.specs.Scoreboard.{number_built}
-use Rattle.kept_flights.specs.Places.{Happens, observed, world_before}
+use Rattle.kept_flights.specs.Places.{Happens, observed, seen_before, world_before}
 use Rattle.kept_flights.proofs.Positions.{world_next}
-use Rattle.kept_flights.proofs.Runs.{touched}
+use Rattle.kept_flights.proofs.Runs.{seen, touched}
 
 -- ---- what other steps show
 
--- building a segment, and a timer that expires
+-- building a segment, a timer that expires, and what a recovery does
 abbrev acts : Event → Bool
 acts (Builds m) = true
 acts (Expires timer) = true
+acts (Recovers change) = true
 acts event = false
 
 -- nothing of that is shown
@@ -181,17 +184,18 @@ refuted : (o : Option TouchedEndpoint) (me : EndpointId) (event : Event) (before
     → ⊥
 refuted o me event before quiet does is = let bad : true ≡ false = sym does ∙ quiet (touched me event before) is in cc
 
--- steps of other kinds show neither
+-- steps of other kinds show none of them
 abbrev is_other : Step tcp_shape → Bool
 is_other (At host (network.Expires line x)) = false
 is_other (At host (network.Makes m)) = false
+is_other (At host (network.Does x)) = false
 is_other step = true
 
 quiet_step : (h : Header) (moment : ℕ) (w : World tcp_shape) (step : Step tcp_shape) → is_other step ≡ true → Quiet (observe h moment w step).touched
 quiet_step h moment w (Begin line thread call) other = none_quiet
 quiet_step h moment w (Finish line thread answer) other = none_quiet
 quiet_step h moment w (Effect thread answer) other = effect_quiet h w thread answer (turn_of thread w.threads)
-quiet_step h moment w (At host (network.Does x)) other = ports_quiet host (pick w.hosts host).body (Recovers x.change) x.lport x.rport refl
+quiet_step h moment w (At host (network.Does x)) other = absurd cc
 quiet_step h moment w (At host (network.Expires line x)) other = absurd cc
 quiet_step h moment w (At host (network.Makes m)) other = absurd cc
 quiet_step h moment w (At host (network.Sends line number wire)) other =
@@ -220,6 +224,10 @@ builds_by h moment w (At host (network.Expires line x)) me m before here =
     let p = ports_are host (pick w.hosts host).body (Expires (timer_of x.expired)) x.lport x.rport me (Builds m) before here in
     let bad = p.event_is in
     absurd cc
+builds_by h moment w (At host (network.Does x)) me m before here =
+    let p = ports_are host (pick w.hosts host).body (Recovers x.change) x.lport x.rport me (Builds m) before here in
+    let bad = p.event_is in
+    absurd cc
 builds_by h moment w step me m before here =
     absurd (refuted (observe h moment w step).touched me (Builds m) before (quiet_step h moment w step refl) refl here)
 
@@ -232,8 +240,31 @@ expires_by h moment w (At host (network.Makes n)) me before here =
     let p = ports_are host (pick w.hosts host).body (Builds n) n.lport n.rport me (Expires Pto) before here in
     let bad = p.event_is in
     absurd cc
+expires_by h moment w (At host (network.Does x)) me before here =
+    let p = ports_are host (pick w.hosts host).body (Recovers x.change) x.lport x.rport me (Expires Pto) before here in
+    let bad = p.event_is in
+    absurd cc
 expires_by h moment w step me before here =
     absurd (refuted (observe h moment w step).touched me (Expires Pto) before (quiet_step h moment w step refl) refl here)
+
+-- what a recovery does, it does at the endpoint as it is
+pub recovers_there : (h : Header) (moment : ℕ) (w : World tcp_shape) (step : Step tcp_shape) (me : EndpointId) (change : RecoveryChange) (before : View)
+    → Happens (observe h moment w step) me (Recovers change) before → before ≡ seen w me
+recovers_there h moment w (At host (network.Does x)) me change before here =
+    let p = ports_are host (pick w.hosts host).body (Recovers x.change) x.lport x.rport me (Recovers change) before here in
+    let there : find w.hosts me ≡ Some p.endpoint =
+    subst (λ (g : Host). slice_get (pick w.hosts g).body.endpoints me.number ≡ Some p.endpoint) p.host_is p.there in
+    p.seen ∙ sym (ap (λ (o : Option Endpoint). option_map_or view_of o unborn) there)
+recovers_there h moment w (At host (network.Expires line x)) me change before here =
+    let p = ports_are host (pick w.hosts host).body (Expires (timer_of x.expired)) x.lport x.rport me (Recovers change) before here in
+    let bad = p.event_is in
+    absurd cc
+recovers_there h moment w (At host (network.Makes n)) me change before here =
+    let p = ports_are host (pick w.hosts host).body (Builds n) n.lport n.rport me (Recovers change) before here in
+    let bad = p.event_is in
+    absurd cc
+recovers_there h moment w step me change before here =
+    absurd (refuted (observe h moment w step).touched me (Recovers change) before (quiet_step h moment w step refl) refl here)
 
 -- ---- the numbers of segments
 
@@ -309,3 +340,10 @@ module _ (h : Header) (xs : List (Stamped tcp_shape)) where
         count = ap (λ (v : World tcp_shape). v.count) (s.goes ∙ ap (after (tcp h) s.x.moment w) step);
         no_syn = ap (λ (o : Observation). o.syn_change) shows;
       }
+
+  pub recovers_at : (place : ℕ) (me : EndpointId) (change : RecoveryChange) (before : View) → Happens (observed h xs place) me (Recovers change) before
+      → before ≡ seen_before h xs place me
+  recovers_at place me change before here =
+      let s = step_at place me (Recovers change) before here in
+      recovers_there h s.x.moment (world_before h xs place) s.x.step me change before
+      (subst (λ (o : Observation). Happens o me (Recovers change) before) s.shows here)

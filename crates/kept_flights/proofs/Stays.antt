@@ -68,7 +68,7 @@ module _ (h : Header) (xs : List (Stamped tcp_shape)) (me : EndpointId) (six : s
       peers_keeps (observed h xs place).syn_change (flight_before h xs place me).sides
       (λ other change. taken_once h xs me lawful from place (omega (arith, low)) true alone false other syn (event, before, here, change)) is)
 
-  selective : (place : ℕ) → BothPermit h xs place me → (event : Event) (before : View) → Happens (observed h xs place) me event before
+  pub selective : (place : ℕ) → BothPermit h xs place me → (event : Event) (before : View) → Happens (observed h xs place) me event before
       → are_selective (sides_after (observed h xs place).syn_change (flight_before h xs place me).sides) ≡ true
   selective place b event before here =
       let mine = own_keeps (observed h xs place).syn_change (flight_before h xs place me).sides (own b.sent place b.sent_before b.sends) in
@@ -94,7 +94,7 @@ module _ (h : Header) (xs : List (Stamped tcp_shape)) (me : EndpointId) (six : s
 
   -- ---- the position
 
-  read_there : (place position : ℕ) → IsReported h xs place me position → (event : Event) (before : View)
+  pub read_there : (place position : ℕ) → IsReported h xs place me position → (event : Event) (before : View)
       → Happens (observed h xs place) me event before → Read (world_before h xs place) me event before position
   read_there place position r event before here =
       let is = shown place (Takes r.line r.choice) r.step in
@@ -117,7 +117,7 @@ module _ (h : Header) (xs : List (Stamped tcp_shape)) (me : EndpointId) (six : s
       (sides_after (observed h xs place).syn_change (flight_before h xs place me).sides) (observed h xs place).blocks
       (flight_before h xs place me).board low read.answered (selective place permit event before here) r.reports))
 
-  told : (from to position : ℕ) → from < to → BothPermit h xs from me → IsReported h xs from me position
+  pub told : (from to position : ℕ) → from < to → BothPermit h xs from me → IsReported h xs from me position
       → StaysOut h xs from to me position → Told position (flight_before h xs to me).board
   told from to position less permit r out =
       run_keeps h xs six (λ f. Told position f.board) me (suc from) to (omega (arith, less))
@@ -137,7 +137,7 @@ module _ (h : Header) (xs : List (Stamped tcp_shape)) (me : EndpointId) (six : s
           omega (arith, rise, last)
 
   -- what was sent at one place was sent at a later one
-  was_sent : (from to position : ℕ) → from < to → IsReported h xs from me position → (m : SegmentPlan) (b : IsBuilt h xs to me m)
+  pub was_sent : (from to position : ℕ) → from < to → IsReported h xs from me position → (m : SegmentPlan) (b : IsBuilt h xs to me m)
       → position < b.before.snd_max
   was_sent from to position less r m b =
       let read = read_there from position r r.event r.before r.happens in

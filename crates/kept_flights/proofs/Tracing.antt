@@ -40,7 +40,7 @@ use Rattle.spec_tcp_laws.proofs.Later.{GoodEmission, Hosts, name}
 use Rattle.spec_tcp_laws.proofs.Rules.{both_true, is_not, not_false, true_false, zero_from}
 use Rattle.spec_tcp_laws.proofs.Runs.{Fine, fine_run, fine_start, nowhere}
 use Rattle.spec_tcp_laws.proofs.Sound.{modify_here}
-use Rattle.spec_duties.specs.Arrivals.{stamps_read}
+use Rattle.spec_duties.specs.Arrivals.{acked_sent, stamps_read}
 use Rattle.spec_duties.specs.Observations.{at_place, at_sender, observe, sending_of, syn_sent, unseen}
 use Rattle.spec_duties.specs.Views.{unborn, view_of}
 use Rattle.spec_duties.specs.declared.observations.BuiltChange.TheVariants as built_change
@@ -212,6 +212,7 @@ module _ (h : Header) (whole : is_half h.version ≡ false) (xs : List (Stamped 
           built_change = built_change.Sends number;
           syn_change = syn_sent h.version m.emission wire.bytes;
           stamps = stamps_read h.version wire.bytes;
+          acked = acked_sent h.version wire m.emission;
         })).touched) waits
         ∙ ap (λ (r : Bool). if r then None else at_place host (pick w.hosts host).body (sending_of wire x.emission) x.emission.sender.number) plain
         ∙ ap (option_map (λ e. record { host = host; place = x.emission.sender.number; event = sending_of wire x.emission; before = view_of e })) there

@@ -468,6 +468,19 @@ memory pressure",
             rfc: "2018, 2 to 4",
             ..PLAIN
         },
+        Rule::Echo => &Meaning {
+            refused: "a segment doesn't echo the timestamp that it has to, or has none",
+            usual: "the stack echoes the timestamp of another segment than the last one that it processed in order",
+            captured: "the capture lost a received segment",
+            rfc: "7323, 3.2, 4.3",
+            ..PLAIN
+        },
+        Rule::ClockFalls => &Meaning {
+            refused: "a segment's own timestamp is older than that of a segment that was built before it",
+            usual: "the stack's timestamp clock goes back, or a segment has the timestamp of another",
+            rfc: "7323, 5.2",
+            ..PLAIN
+        },
         Rule::SampleDue => &Meaning {
             refused: "no round trip is measured, though one is due",
             usual: "the witness leaves out a sample; a stack has to measure at least one round trip for each flight",

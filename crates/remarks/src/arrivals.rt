@@ -66,6 +66,18 @@ impl Carried {
 }
 
 impl Carried {
+    // The positions of all of it. None: it is nothing.
+    fn stretch(&self) -> Option<Stretch> {
+        let fin = self.fin.map(|fin| Stretch {
+            first: fin,
+            end: fin.saturating_add(1),
+        });
+        match (self.bytes, fin) {
+            (Some(bytes), Some(fin)) => Stretch::up_to(bytes.first, fin.end),
+            (bytes, fin) => bytes.or(fin),
+        }
+    }
+
     // Whether its first byte, or its FIN if it has none, is at a position.
     fn begins_at(&self, position: u64) -> bool {
         match self.bytes {
@@ -127,6 +139,7 @@ impl Review<'_> {
         let Some(arrival) = self.arrive(replay.world(), host, line)? else {
             return Ok(());
         };
+        self.receive(&arrival, keeps)?;
         self.keep(&arrival, keeps)?;
         let (lport, rport) = (arrival.segment.rport, arrival.segment.lport);
         let was_shut = arrival
@@ -220,6 +233,29 @@ impl Review<'_> {
         let extra = u64::from(self.case.trace.header.extra);
         let room = u64::from(listener.backlog).saturating_add(extra);
         ((listener.queue.len() as u64) < room).then_some(Who::Listener { host, port })
+    }
+
+    /// Remembers which positions a segment brings to an endpoint, and which of its bytes are kept beyond a gap.
+    pub(crate) fn receive(
+        &mut self,
+        arrival: &Arrival<'_>,
+        keeps: bool,
+    ) -> Result<(), OutOfMemory> {
+        let (version, segment) = (self.case.trace.header.version, arrival.segment);
+        let Some((id, endpoint)) = arrival.receiver.filter(|_| version.says_sender()) else {
+            return Ok(());
+        };
+        let Some(read) = Arrived::checked_read(version, endpoint, segment) else {
+            return Ok(());
+        };
+        let Some(came) = Carried::new(segment, read.pos()).stretch() else {
+            return Ok(());
+        };
+        let fresh = self.fresh(arrival).filter(|_| keeps);
+        let bytes = fresh.and_then(|(_, _, fresh)| fresh.bytes);
+        let beyond = bytes.filter(|bytes| endpoint.rcv_nxt() < bytes.first);
+        let (alloc, moment) = (self.alloc, self.moment);
+        self.came(id)?.add(alloc, came, beyond, moment)
     }
 
     // Remarks on what an endpoint doesn't keep, unless a rule judges that, and remembers what it keeps beyond a gap.

@@ -17,6 +17,7 @@
 //!
 //! - a segment beyond a gap is discarded, or bytes beyond the window are kept
 //! - equal acknowledgments: `ack-excess` permits one for each segment, and these are counted against those that asked
+//! - SACK blocks are missing, or the first one reports nothing of what came last
 //! - a reset follows a reset, or a SYN is given up early
 //! - what is left at the end, except timers and open windows
 

@@ -25,6 +25,7 @@ impl Review<'_> {
                 burst.say(&mut self.found)?;
             }
             note.say_equal_acks(&mut self.found)?;
+            note.say_blockless(&mut self.found)?;
         }
         if let Ok(Verdict::Yes { .. }) = self.case.verdict {
             self.say_left(alloc, world)?;

@@ -16,11 +16,13 @@
 //! - `notes`: what is remembered of an endpoint and its retransmissions
 //! - `arrivals`: what is dropped, or processed and not kept; `sendings`: what is sent, and sent again
 //! - `bursts`: what is sent again beyond the loss window; `acknowledgments`: those that nothing asked for
+//! - `blocks`: selective acknowledgments without the blocks that should be sent
 //! - `waits`: timers and open windows with nothing sent, a SYN given up; `ends`: what is left at the end
 #![tactic(auto)]
 
 mod acknowledgments;
 mod arrivals;
+mod blocks;
 mod bursts;
 mod covered;
 mod ends;

@@ -2,6 +2,7 @@
 //! microseconds.
 
 use crate::acknowledgments::EqualAcks;
+use crate::blocks::Blockless;
 use crate::bursts::Burst;
 use crate::found::{Found, Repeats, Time};
 use crate::sendings::Sending;
@@ -50,6 +51,7 @@ pub(crate) struct Note {
     /// Something arrived since it last sent something that takes positions.
     pub heard: bool,
     pub equal_acks: Option<EqualAcks>,
+    pub blockless: Option<Blockless>,
     /// How many segments arrived that ask for an acknowledgment.
     pub asked: u64,
     /// Its program aborted it.

@@ -1,6 +1,7 @@
 //! The review of a case: its replay, and what is remembered beside it.
 
 use crate::arrivals::Reset;
+use crate::blocks::Batches;
 use crate::found::Found;
 use crate::notes::{Again, Note, Permit};
 use crate::sendings::Sending;
@@ -9,7 +10,7 @@ use endpoint_state::World;
 use replayed::{Case, Replay, ReplayFault, socket_of};
 use spec_tcp::{Endpoint, EndpointId, SocketTarget};
 use std::alloc::Global;
-use std::collections::{BTreeMap, BTreeSet};
+use std::collections::BTreeMap;
 
 /// The remarks on a case.
 #[derive(Drop)]
@@ -37,9 +38,12 @@ pub(crate) struct Review<'c> {
     pub found: Found,
     /// By the host of an endpoint and its place there.
     pub notes: BTreeMap<(u8, u32), Note>,
-    /// The segments that were made, by their numbers, and the numbers of those that lines show.
+    /// What came last to it, from version 6 on.
+    pub batches: BTreeMap<(u8, u32), Batches>,
+    pub alloc: Global,
+    /// The segments that were made, by their numbers, and the lines that show them.
     pub made: BTreeMap<u32, Sending>,
-    pub shown: BTreeSet<u32>,
+    pub shown: BTreeMap<u32, u64>,
     /// What was retransmitted last from a position of an endpoint, by its `position_key`.
     pub again: BTreeMap<(u8, u32, u64), Again>,
     /// Bytes and FINs that were kept beyond a gap, by their first position: the position after them.
@@ -58,8 +62,10 @@ impl<'c> Review<'c> {
             moment: 0,
             found: Found::new(alloc, &case.trace.header),
             notes: BTreeMap::new(alloc),
+            batches: BTreeMap::new(alloc),
+            alloc,
             made: BTreeMap::new(alloc),
-            shown: BTreeSet::new(alloc),
+            shown: BTreeMap::new(alloc),
             again: BTreeMap::new(alloc),
             held: BTreeMap::new(alloc),
             calls: BTreeMap::new(alloc),
@@ -98,7 +104,7 @@ impl Review<'_> {
                 && let Some(line) = self.case.line(named.number)
                 && let Event::Sent(..) = &line.event
             {
-                self.shown.insert(made)?;
+                self.shown.insert(made, named.number)?;
             }
         }
         Ok(())
@@ -112,12 +118,13 @@ impl Review<'_> {
             Label::T { host, line, choice } => {
                 return self.process(replay, step, (*host, *line), choice.keep);
             }
-            Label::M { host, plan } => self.make(world, *host, plan)?,
+            Label::M { host, plan } => self.make(replay, *host, plan)?,
             Label::K { host, line } => {
-                if let Some(arrival) = self.arrive(world, *host, *line)?
-                    && !replay.is_excused(step)
-                {
-                    self.drop_arrival(world, &arrival)?;
+                if let Some(arrival) = self.arrive(world, *host, *line)? {
+                    self.receive(&arrival, false)?;
+                    if !replay.is_excused(step) {
+                        self.drop_arrival(world, &arrival)?;
+                    }
                 }
             }
             Label::R { host, line } => {
@@ -194,6 +201,13 @@ impl Review<'_> {
             self.touch(world, id, line)?;
         }
         Ok(())
+    }
+
+    /// What came last to an endpoint.
+    pub(crate) fn came(&mut self, id: EndpointId) -> Result<&mut Batches, OutOfMemory> {
+        let key = (id.host as u8, id.number);
+        let new = Batches::new(self.alloc);
+        Ok(self.batches.entry(key)?.or_insert(new))
     }
 
     /// What is remembered of an endpoint.

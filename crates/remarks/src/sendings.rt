@@ -1,6 +1,7 @@
 //! What is made and sent, and what is sent again.
 
 use crate::acknowledgments::PureAck;
+use crate::blocks::BlockFault;
 use crate::bursts::beyond_loss_window;
 use crate::found::{Found, Lines, Repeats, Stretch, Time, Who};
 use crate::notes::{Again, Note, Permit, Permits, position_key};
@@ -8,6 +9,7 @@ use crate::review::{Review, endpoint_of};
 use crate::waits::{Now, say_late};
 use case_forms::{Host, OutOfMemory, SegmentPlan, Timer};
 use endpoint_state::World;
+use replayed::Replay;
 use spec_tcp::{Endpoint, EndpointId, window_in};
 
 // For how many microseconds a segment may wait after it was built. A capture shows a segment after its stack built it,
@@ -41,6 +43,7 @@ pub(crate) struct Sending {
     pub beyond: Option<Stretch>,
     /// What it acknowledges, if it does nothing else.
     pure_ack: Option<PureAck>,
+    block_fault: BlockFault,
     /// The retransmission timeout, in microseconds.
     rto: u64,
 }
@@ -69,6 +72,7 @@ impl Sending {
             answers: note.heard,
             beyond: beyond_loss_window(endpoint, plan, note),
             pure_ack: PureAck::from_plan(endpoint, plan),
+            block_fault: BlockFault::Nothing,
             rto: endpoint.timers.rto,
         }
     }
@@ -111,22 +115,25 @@ impl Review<'_> {
     /// A host makes a segment.
     pub(crate) fn make(
         &mut self,
-        world: &World,
+        replay: &Replay<'_>,
         host: Host,
         plan: &SegmentPlan,
     ) -> Result<(), OutOfMemory> {
+        let world = replay.world();
         let Some((id, endpoint)) = endpoint_of(world, host, plan.lport, plan.rport) else {
             return Ok(());
         };
         let number = world.count().saturating_add(1);
-        let is_shown = self.shown.contains(&number);
+        let is_shown = self.shown.contains_key(&number);
         let reset = self.reset_before(host, plan, endpoint);
+        let block_fault = self.block_fault(replay.flights(), id, endpoint, plan, number);
         let note = self.note(id)?;
         if is_shown && plan.flags.ack {
             note.edge = note.edge.max(edge_of(endpoint, plan));
         }
         let mut sending = Sending::new(id, endpoint, plan, note);
         sending.reset = reset;
+        sending.block_fault = block_fault;
         sending.made = self.moment;
         self.made.insert(number, sending)?;
         Ok(())
@@ -168,6 +175,7 @@ impl Review<'_> {
         if let Some(pure_ack) = sending.pure_ack {
             note.acknowledge(&mut self.found, pure_ack, now)?;
         }
+        note.take_blocks(&mut self.found, sending.block_fault, now)?;
         if let Some(reset) = sending.reset {
             let does = "sends a reset after the reset of line";
             self.found.add(line, who, does, &reset)?;

@@ -243,6 +243,7 @@ fn reason_of(world: &World, step: &Step, rule: Rule) -> Reason {
         Rule::SendLate | Rule::AckLate | Rule::ExpiryLate | Rule::ResendLate => Reason::Other,
         Rule::ProbeLate | Rule::StartLate | Rule::ResetLate | Rule::Resent => Reason::Other,
         Rule::ResentBeyond | Rule::AckExcess | Rule::SackUntrue => Reason::Other,
+        Rule::Echo | Rule::ClockFalls => Reason::Other,
         Rule::SampleDue | Rule::AnswerLate => Reason::Other,
     }
 }

@@ -23,10 +23,12 @@ use Rattle.spec_duties.specs.Answering.{waits_after}
 use Rattle.spec_duties.specs.Observations.{observe, view_in}
 use Rattle.spec_duties.specs.declared.observations.Observation.{Observation}
 use Rattle.spec_duties.specs.Watching as watching
-use Rattle.spec_duties.specs.Watching.{Duties, duty_rules, duties_after}
+use Rattle.spec_duties.specs.Watching.{Duties, duty_rules, duties_after, untrue_rules}
+use Rattle.spec_duties.specs.declared.observations.Untruth.{Untruth}
+use Rattle.spec_duties.specs.declared.observations.Untruth.TheVariants as untruth
 use Rattle.spec_duties.specs.End as end
 use Rattle.spec_flights.specs.Flights as flights
-use Rattle.spec_flights.specs.Flights.{Flights, excused, flights_after, refusal, sends_untrue}
+use Rattle.spec_flights.specs.Flights.{Flights, excused, flights_after, mistimed, refusal, sends_untrue}
 
 -- the model's world, what is kept of data in flight, and what its hosts owe
 pub record Known : Type 0 where
@@ -46,11 +48,10 @@ first_known h = record { model = steps.start (tcp h); flights = flights.start; d
 abbrev pub start : Header → Watched
 start h = record { header = h; world = first_known h; steps = 0 }
 
--- the rules of duties if the header gives a slack. If it says `any`, one: what an endpoint reports as received is true
--- or not at any moment
-abbrev pub judged_rules : Header → (moment : ℕ) → Duties → (untrue : Bool) → Observation → List (Rule × Bool)
-judged_rules h moment d untrue s =
-    on h.slack ((rules.SackUntrue, untrue) ∷ []) (λ slack. duty_rules h slack moment d untrue s)
+-- the rules of duties if the header gives a slack. If it says `any`, one: what the line of a segment shows is true or
+-- not at any moment
+abbrev pub judged_rules : Header → (moment : ℕ) → Duties → (untrue : Option Untruth) → Observation → List (Rule × Bool)
+judged_rules h moment d untrue s = on h.slack (untrue_rules untrue) (λ slack. duty_rules h slack moment d untrue s)
 
 -- the same with what is kept of calls that wait, for the stricter duties
 abbrev pub with_waits : (strict : Bool) → (moment : ℕ) → (after : World tcp_shape) → Observation → Duties → Duties
@@ -77,14 +78,21 @@ abbrev pub untrue_sent : Flights → Host → HostState tcp_shape → (number : 
 untrue_sent fs host s number wire =
     option_map_or (λ m. untrue_from fs host s.body wire m.emission) (lookup (nat_eq number) s.made) false
 
--- a step does, from version 6 on
-abbrev pub untrue_by : Known → Host → HostStep tcp_shape → Bool
-untrue_by k host (network.Sends line number wire) = untrue_sent k.flights host (pick k.model.hosts host) number wire
-untrue_by k host d = false
+-- what its line shows that may not be: its blocks, or its timestamps; from version 6 on
+abbrev pub shows_untrue : Header → Flights → Host → HostState tcp_shape → (number : ℕ) → Wire → Observation
+    → Option Untruth
+shows_untrue h fs host state number wire s =
+    if says_sender h.version && untrue_sent fs host state number wire then Some untruth.Blocks else mistimed h fs s
 
-abbrev pub untrue_at : Header → Known → Step tcp_shape → Bool
-untrue_at h k (network.At host d) = says_sender h.version && untrue_by k host d
-untrue_at h k step = false
+abbrev pub untrue_by : Header → (moment : ℕ) → Known → Host → HostStep tcp_shape → Option Untruth
+untrue_by h moment k host (network.Sends line number wire) =
+    shows_untrue h k.flights host (pick k.model.hosts host) number wire
+    (observe h moment k.model (network.At host (network.Sends line number wire)))
+untrue_by h moment k host d = None
+
+abbrev pub untrue_at : Header → (moment : ℕ) → Known → Step tcp_shape → Option Untruth
+untrue_at h moment k (network.At host d) = untrue_by h moment k host d
+untrue_at h moment k step = None
 
 -- what duties see of a step
 abbrev pub shown : Header → (moment : ℕ) → Known → Step tcp_shape → Observation
@@ -92,7 +100,7 @@ shown h moment k step = excused h k.flights (observe h moment k.model step)
 
 -- the rules of duties at a step
 abbrev pub watch_rules : Header → (moment : ℕ) → Known → Step tcp_shape → List (Rule × Bool)
-watch_rules h moment k step = judged_rules h moment k.duties (untrue_at h k step) (shown h moment k step)
+watch_rules h moment k step = judged_rules h moment k.duties (untrue_at h moment k step) (shown h moment k step)
 
 -- the rule counts as broken
 abbrev pub with_broken : Rule → Rule × Bool → Rule × Bool

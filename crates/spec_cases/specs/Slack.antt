@@ -1,18 +1,19 @@
--- The slack: the greater it is, the more is accepted; with `any` everything is, but for what isn't true.
+-- The slack: the greater it is, the more is accepted; with `any` everything is, but for what a segment shows that isn't
+-- true.
 use Rattle.std.specs.Prelude.{◌≡◌, ◌≤◌, ℕ, suc, Bool, false, if◌then◌else◌, List, [], ◌∷◌, Option, None, Some}
 use Rattle.std.specs.List.{AllByRecursion}
 use Rattle.case_forms.specs.declared.calls.Host.{Host}
 use Rattle.case_forms.specs.declared.trace.Header.{Header}
 use Rattle.verdict.specs.Rules.{first_broken}
-use Rattle.verdict.specs.declared.rule.Rule.TheVariants as rules
 use Rattle.spec_network.specs.Hosts.{Stamped, World}
 use Rattle.spec_network.specs.Tables.{pick}
 use Rattle.spec_tcp.specs.Machine.{tcp_shape}
 use Rattle.spec_duties.specs.Credits.{is_credit_from}
-use Rattle.spec_duties.specs.Watching.{Duties}
+use Rattle.spec_duties.specs.Watching.{Duties, untrue_rules}
 use Rattle.spec_flights.specs.Flights.{Flights, judges}
 use Rattle.spec_cases.specs.Cases.{Known, Dutiful, judged_rules, late_at_end, noted_by}
 use Rattle.spec_duties.specs.declared.observations.Observation.{Observation}
+use Rattle.spec_duties.specs.declared.observations.Untruth.{Untruth}
 
 -- the same header with another slack
 abbrev pub with_slack : Option ℕ → Header → Header
@@ -45,7 +46,7 @@ pub record HasMoreCredits (few many : Duties) : Type 0 where
 
 -- with a greater slack, no step is refused that wasn't before, and nothing is late at the end that wasn't before
 pub record LessLateIsMoreAccepted (less more : Option ℕ) : Type 0 where
-  pub steps : (h : Header) (moment : ℕ) (few many : Duties) (untrue : Bool) (s : Observation)
+  pub steps : (h : Header) (moment : ℕ) (few many : Duties) (untrue : Option Untruth) (s : Observation)
       → HasMoreCredits few many → first_broken (judged_rules (with_slack less h) moment few untrue s) ≡ None
       → first_broken (judged_rules (with_slack more h) moment many untrue s) ≡ None
   pub end : (h : Header) (moment : ℕ) (w : World tcp_shape) (fs : Flights) (few many : Duties) → HasMoreCredits few many
@@ -56,17 +57,17 @@ pub record LessLateIsMoreAccepted (less more : Option ℕ) : Type 0 where
 -- takes one that is as old or older, so at least as many are left
 abbrev pub SlackIsHardlyNoted : Type 0
 SlackIsHardlyNoted =
-    (h : Header) (less more moment : ℕ) (w : World tcp_shape) (untrue : Bool) (s : Observation) (few many : Duties)
-    → less ≤ more → HasMoreCredits few many
+    (h : Header) (less more moment : ℕ) (w : World tcp_shape) (untrue : Option Untruth) (s : Observation)
+    (few many : Duties) → less ≤ more → HasMoreCredits few many
     → first_broken (judged_rules (with_slack (Some less) h) moment few untrue s) ≡ None
     → HasMoreCredits (noted_by (with_slack (Some less) h) moment w s few)
     (noted_by (with_slack (Some more) h) moment w s many)
 
--- without a slack no duty is judged but that what is reported is true, and nothing but the model where data in flight
--- isn't judged, either
+-- without a slack no duty is judged but that what a segment shows is true, and nothing but the model where data in
+-- flight isn't judged, either
 pub record NothingIsJudged : Type 0 where
-  pub rules : (h : Header) (moment : ℕ) (d : Duties) (untrue : Bool) (s : Observation) → h.slack ≡ None
-      → judged_rules h moment d untrue s ≡ (rules.SackUntrue, untrue) ∷ []
+  pub rules : (h : Header) (moment : ℕ) (d : Duties) (untrue : Option Untruth) (s : Observation) → h.slack ≡ None
+      → judged_rules h moment d untrue s ≡ untrue_rules untrue
   pub runs : (h : Header) (k : Known) (xs : List (Stamped tcp_shape)) → h.slack ≡ None → judges h ≡ false
       → Dutiful h k xs
   pub end : (h : Header) (moment : ℕ) (k : Known) → h.slack ≡ None → late_at_end h moment k ≡ None

@@ -41,7 +41,7 @@ use Rattle.spec_duties.specs.Dropped.{discards_at, is_old, reads_old_numbers}
 use Rattle.spec_duties.specs.Sampling.{sampling_at}
 use Rattle.spec_duties.specs.Blocks.{blocks_taken, no_blocks}
 use Rattle.spec_duties.specs.Kept.{kept_at, nothing_kept}
-use Rattle.spec_duties.specs.Arrivals.{arrival_at, stamps_read}
+use Rattle.spec_duties.specs.Arrivals.{acked_at_ports, acked_sent, arrival_at, stamps_read}
 use Rattle.spec_duties.specs.Answering.{CallChange, answering, beginning, judged_call, judged_socket, socket_changing}
 use Rattle.spec_duties.specs.declared.answering.CallChange.TheVariants as call_change
 use Rattle.spec_duties.specs.declared.answering.SocketChange.TheVariants as socket_change
@@ -73,6 +73,7 @@ unseen = record {
   kept = nothing_kept;
   stamps = None;
   arrival = None;
+  acked = 0;
   call_change = call_change.Nothing;
   socket_change = socket_change.Nothing;
 }
@@ -193,8 +194,8 @@ observe_host_step h moment w fresh host s (network.Expires line x) =
 observe_host_step h moment w fresh host s (network.Makes m) =
     record unseen {
       touched = at_ports host s.body (events.Builds m) m.lport m.rport;
-      built_change =
-          built_change.Builds fresh;
+      built_change = built_change.Builds fresh;
+      acked = acked_at_ports h.version s.body m moment;
     }
 observe_host_step h moment w fresh host s (network.Sends line number wire) =
     on (lookup (nat_eq number) s.made) unseen
@@ -203,6 +204,7 @@ observe_host_step h moment w fresh host s (network.Sends line number wire) =
       built_change = built_change.Sends number;
       syn_change = syn_sent h.version m.emission wire.bytes;
       stamps = stamps_read h.version wire.bytes;
+      acked = acked_sent h.version wire m.emission;
     })
 observe_host_step h moment w fresh host s (network.Gets line copied wire) =
     record unseen { inbox_change = inbox_change.Enters line }

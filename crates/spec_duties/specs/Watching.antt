@@ -32,6 +32,8 @@ use Rattle.spec_duties.specs.declared.observations.InboxChange.TheVariants as in
 use Rattle.spec_duties.specs.declared.observations.BuiltChange.TheVariants as built_change
 use Rattle.spec_duties.specs.declared.observations.Queueing.TheVariants as queueing
 use Rattle.spec_duties.specs.declared.observations.Droppable.TheVariants as droppable
+pub use Rattle.spec_duties.specs.declared.observations.Untruth.{Untruth}
+use Rattle.spec_duties.specs.declared.observations.Untruth.TheVariants as untruth
 pub use Rattle.spec_duties.specs.declared.tables.Listening.{Listening}
 pub use Rattle.spec_duties.specs.declared.tables.Built.{Built}
 
@@ -125,13 +127,25 @@ abbrev pub sends_in_excess : Header → (slack : ℕ) → Duties → Option Unse
 sends_in_excess h slack d sent t =
     says_sender h.version && option_map_or (lacks_credit slack d t.host t.place) sent false
 
--- the limits on repetition, what may be reported, and the measurement that is due; `lacks`: an acknowledgment is sent
--- without a credit; `untrue`: one reports what isn't held
-abbrev pub limit_rules : Header → TouchedEndpoint → (counts lacks untrue due : Bool) → Owed → List (Rule × Bool)
+-- the rule that the line of a segment breaks by what it shows
+abbrev pub rule_of : Untruth → Rule
+rule_of untruth.Blocks = rules.SackUntrue
+rule_of untruth.Echo = rules.Echo
+rule_of untruth.Clock = rules.ClockFalls
+
+-- that rule alone, if there is one
+abbrev pub untrue_rules : Option Untruth → List (Rule × Bool)
+untrue_rules None = []
+untrue_rules (Some untruth) = (rule_of untruth, true) ∷ []
+
+-- the limits on repetition, what may be shown, and the measurement that is due; `lacks`: an acknowledgment is sent
+-- without a credit; `untrue`: what its line shows that may not be
+abbrev pub limit_rules : Header → TouchedEndpoint → (counts lacks : Bool) → (untrue : Option Untruth) → (due : Bool)
+    → Owed → List (Rule × Bool)
 limit_rules h t counts lacks untrue due o =
     (rules.Resent, not (says_sender h.version) && is_resent h.congestion t.event t.before o.again)
     ∷ (rules.ResentBeyond, not (says_sender h.version) && is_resent_beyond h.congestion t.event t.before)
-    ∷ (rules.AckExcess, is_excess counts o.answers || lacks) ∷ (rules.SackUntrue, untrue) ∷ (rules.SampleDue, due) ∷ []
+    ∷ (rules.AckExcess, is_excess counts o.answers || lacks) ∷ (untrue_rules untrue ++ (rules.SampleDue, due) ∷ [])
 
 -- which duties of an endpoint are late: in version 6, by the stricter ones
 abbrev pub judged_lates : Header → (slack moment : ℕ) → Duties → (brought : Option ℕ) → Host → (place : ℕ) → View
@@ -143,21 +157,22 @@ judged_lates h slack moment d brought host place v =
     else lates_of slack moment v (listener_closed d host v) (owed_by d host place)
 
 -- the rules of an endpoint that a step touches
-abbrev pub touched_rules : Header → (slack moment : ℕ) → Duties → (counts untrue : Bool) → (sent : Option Unsent)
-    → Sampling → TouchedEndpoint → List (Rule × Bool)
+abbrev pub touched_rules : Header → (slack moment : ℕ) → Duties → (counts : Bool) → (untrue : Option Untruth)
+    → (sent : Option Unsent) → Sampling → TouchedEndpoint → List (Rule × Bool)
 touched_rules h slack moment d counts untrue sent s t =
     late_rules (judged_lates h slack moment d (brought_by sent) t.host t.place t.before)
     ++ limit_rules h t counts (sends_in_excess h slack d sent t) untrue
     (is_sample_due s (strict_by d t.host t.place).timed) (owed_by d t.host t.place)
 
 -- the rules of a step at no endpoint; of a call that waits, nothing is owed but its answer
-abbrev pub answer_rules : (slack moment : ℕ) → Duties → (untrue : Bool) → CallChange → List (Rule × Bool)
+abbrev pub answer_rules : (slack moment : ℕ) → Duties → (untrue : Option Untruth) → CallChange → List (Rule × Bool)
 answer_rules slack moment d untrue change =
-    (rules.SackUntrue, untrue) ∷ (rules.AnswerLate, is_answer_late slack moment d.waits change) ∷ []
+    untrue_rules untrue ++ (rules.AnswerLate, is_answer_late slack moment d.waits change) ∷ []
 
--- all rules of duties at a step; one that begins, answers or ends a call that waits touches no endpoint. `untrue`: the
--- step sends a selective acknowledgment that isn't true
-abbrev pub duty_rules : Header → (slack moment : ℕ) → Duties → (untrue : Bool) → Observation → List (Rule × Bool)
+-- all rules of duties at a step; one that begins, answers or ends a call that waits touches no endpoint. `untrue`: what
+-- the line of a segment shows that may not be
+abbrev pub duty_rules : Header → (slack moment : ℕ) → Duties → (untrue : Option Untruth) → Observation
+    → List (Rule × Bool)
 duty_rules h slack moment d untrue s =
     (rules.Dropped, drops_needed d s.dropping) ∷ (rules.Discarded, s.discards)
     ∷ (rules.ProcessLate, leaves_late slack moment d s.inbox_change)

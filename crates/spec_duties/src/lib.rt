@@ -22,7 +22,8 @@
 //! - `specs/Strict`: the duties that are stricter in version 6, or have later deadlines; `specs/Sampling`: when round
 //!   trips are measured at least; `specs/Answering`: by when a call that waits is answered
 //! - `specs/Blocks`: which positions a selective acknowledgment reports as received; `specs/Kept`: which positions an
-//!   endpoint keeps of a segment; `specs/Arrivals`: what reaches an endpoint, with its timestamps
+//!   endpoint keeps of a segment; `specs/Arrivals`: what reaches an endpoint, with its timestamps, and what it
+//!   acknowledges
 //! - `specs/Owed`: all that an endpoint owes; `specs/Observations`: what a step shows of the world
 //! - `specs/Watching`: the rules of a step, and what is kept after it; `specs/End`: the comparison after the last step
 #![tactic(auto)]
@@ -39,7 +40,7 @@ pub use answering::{Awaited, CallChange, OpenCall, Ready, SocketChange, Waitable
 pub use events::{Event, Sending};
 pub use observations::{
     Arrival, Block, Blocks, BuiltChange, Droppable, Dropping, InboxChange, Kept, Observation,
-    Queueing, Sampling, SynChange, TouchedEndpoint,
+    Queueing, Sampling, SynChange, TouchedEndpoint, Untruth,
 };
 pub use owed::{Lates, Owed, Probing};
 pub use strict::{StrictOwed, Unsent};

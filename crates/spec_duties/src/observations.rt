@@ -130,6 +130,17 @@ pub struct TouchedEndpoint {
     pub before: View,
 }
 
+/// What the line of a segment shows that may not be: the rule that it breaks. Versions 1 to 5 don't ask.
+#[derive(Clone, Copy)]
+pub enum Untruth {
+    /// Its blocks report what its sender doesn't hold, or weren't permitted (RFC 2018, 2 to 4).
+    Blocks,
+    /// It doesn't echo the timestamp that it has to (RFC 7323, 3.2 and 4.3).
+    Echo,
+    /// Its own timestamp is older than one that was built before (RFC 7323, 5.2).
+    Clock,
+}
+
 /// All that duties read of the world at a step.
 #[derive(Clone, Copy)]
 pub struct Observation {
@@ -155,6 +166,10 @@ pub struct Observation {
     /// The segment that is processed or dropped. `None`: it is a reset, or reaches no endpoint that knows the peer's
     /// SYN. Versions 1 to 5 don't ask.
     pub arrival: Option<Arrival>,
+    /// The position that the segment which is built or sent acknowledges at least: before it is sent, it may still have
+    /// the acknowledgment number from before the text of its moment. 0: it acknowledges nothing, or versions 1 to 5
+    /// don't ask.
+    pub acked: u64,
     /// What it does to the call of a thread, and to a socket. Versions 1 to 5 don't ask.
     pub call_change: CallChange,
     pub socket_change: SocketChange,

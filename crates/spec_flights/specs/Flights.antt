@@ -31,9 +31,11 @@ use Rattle.spec_duties.specs.declared.events.Event.{Event}
 use Rattle.spec_duties.specs.declared.events.Event.TheVariants.{Builds, Expires, Processes, Recovers}
 use Rattle.spec_duties.specs.declared.observations.Observation.{Observation}
 use Rattle.spec_duties.specs.declared.observations.TouchedEndpoint.{TouchedEndpoint}
+use Rattle.spec_duties.specs.declared.observations.Untruth.{Untruth}
 use Rattle.spec_duties.specs.declared.views.View.{View}
 use Rattle.spec_flights.specs.Clocks.{Clocks, clocks_after, excused_at, no_clocks}
 use Rattle.spec_flights.specs.Delivered.{Reports, heard, read_reports}
+use Rattle.spec_flights.specs.Echoes.{Echoable, echoes_after, mistimed_by}
 use Rattle.spec_flights.specs.Held.{held_after, is_untrue}
 use Rattle.spec_flights.specs.Late.{has_below, resent_below, settled}
 use Rattle.spec_flights.specs.Marks.{goes_again, marks_after, old_part, opens_probed}
@@ -47,8 +49,8 @@ use Rattle.spec_flights.specs.Undoing.{Undoing, needed, undoing_after}
 
 -- what is kept of an endpoint: what the two SYNs permit, from which loss it recovers, which positions are marked, in
 -- order, what is known of each outstanding one, whether it made use of a rescue since the recovery began, how far a
--- probe for a loss is, whether the recovery was needed, and what is known of timestamps; and which positions of its
--- peer's stream it holds beyond what is next, in order
+-- probe for a loss is, whether the recovery was needed, what is known of timestamps, and which of them each segment may
+-- echo that it built; and which positions of its peer's stream it holds beyond what is next, in order
 pub record Flight : Type 0 where
   pub sides : Sides
   pub recovery : Recovery
@@ -58,6 +60,7 @@ pub record Flight : Type 0 where
   pub probing : Probing
   pub undoing : Undoing
   pub clocks : Clocks
+  pub echoes : List (ℕ × Option Echoable)
   pub held : List ℕ
 
 abbrev pub unflown : Flight
@@ -70,6 +73,7 @@ unflown = record {
   probing = not_probing;
   undoing = needed;
   clocks = no_clocks;
+  echoes = [];
   held = [];
 }
 
@@ -184,6 +188,14 @@ sends_untrue fs host place e bytes =
     is_untrue (flight_at fs host place).sides.peers (from_list (flight_at fs host place).held) (rcv_nxt e) e.irs
     (sack_blocks bytes)
 
+-- what the line of a segment shows of timestamps that may not be
+abbrev pub mistimed : Header → Flights → Observation → Option Untruth
+mistimed h fs s =
+    if says_sender h.version
+    then on s.touched None
+    (λ t. mistimed_by s t.event (flight_at fs t.host t.place).clocks (flight_at fs t.host t.place).echoes)
+    else None
+
 -- what duties see of a step: what an endpoint drops may be excused by timestamps; nothing is in versions 1 to 5
 abbrev pub excused : Header → Flights → Observation → Observation
 excused h fs s =
@@ -254,6 +266,7 @@ flight_by moment clock s t after sides r f = record {
   undoing =
       undoing_after s t.event t.before after sides f.recovery (read_reports sides s.blocks) f.board f.undoing;
   clocks = clocks_after s t.event after f.clocks;
+  echoes = echoes_after s t.event f.clocks f.echoes;
   held = held_after s.kept after.rcv_nxt f.held;
 }
 

@@ -8,5 +8,6 @@ pub mod Delivered
 pub mod Marks
 pub mod Held
 pub mod Clocks
+pub mod Echoes
 pub mod Undoing
 pub mod Flights

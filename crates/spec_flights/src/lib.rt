@@ -3,11 +3,12 @@
 //! What is kept of data in flight watches the steps of the model, as duties do, and adds refusals; no step has another
 //! effect for it. It is kept in version 6 alone, at every level and slack.
 //!
-//! This crate has no code, only the values that are kept and the definitions. `flights` implements them.
+//! This crate has no code, only the values that are kept and the definitions. `flight_parts`, `scoreboard` and
+//! `flights` implement them.
 //!
 //! - `sides`: what the two SYNs permitted; `recovery`: from which loss an endpoint recovers; `stretch`: some positions;
 //!   `making`: segments that were built; `reports`: what blocks report; `probing`: probes for a loss;
-//!   `undoing`: whether a recovery was needed; `clocks`: the timestamps of its peer
+//!   `undoing`: whether a recovery was needed; `clocks`: the timestamps of an endpoint and of its peer
 //!
 //! The definitions:
 //!
@@ -20,6 +21,7 @@
 //! - `specs/Delivered`: what an acknowledgment delivers, by its number and by its blocks
 //! - `specs/Marks`: which positions may be sent again, and for which reasons
 //! - `specs/Clocks`: which segments are too old by their timestamps, or lack them, so that they may be dropped
+//! - `specs/Echoes`: which timestamps the line of a segment may show
 //! - `specs/Held`: what an endpoint holds of its peer's stream beyond what is next in order, and may report
 //! - `specs/Flights`: what is kept of each endpoint, what it refuses, and what is kept after a step
 #![tactic(auto)]
@@ -33,7 +35,7 @@ mod sides;
 mod stretch;
 mod undoing;
 
-pub use clocks::Clocks;
+pub use clocks::{Clocks, Echoable, Newest};
 pub use making::{Latest, Making};
 pub use probing::{Probe, Probing};
 pub use recovery::Recovery;

@@ -18,7 +18,7 @@ use std::alloc::Global;
 #[unsafe(no_mangle)]
 pub extern "C" fn tcpwit_rule_name(rule: u32, name: &mut [u8]) -> usize
     ensures name { (r : Rule) → rule ≡ rule_number r → Writes (rule_name r) name.old name.new result }
-    ensures none { (rule ≡ 0) ⊎ ((53 < rule) × (rule ≢ 56) × (rule ≢ 57)) → Writes [] name.old name.new result }
+    ensures none { (rule ≡ 0) ⊎ (57 < rule) → Writes [] name.old name.new result }
 {
     write_rule_name(rule, name)
 }

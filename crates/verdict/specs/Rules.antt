@@ -58,6 +58,8 @@ rule_number rules.Resent = 50
 rule_number rules.ResentBeyond = 51
 rule_number rules.AckExcess = 52
 rule_number rules.SackUntrue = 53
+rule_number rules.Echo = 54
+rule_number rules.ClockFalls = 55
 rule_number rules.SampleDue = 56
 rule_number rules.AnswerLate = 57
 
@@ -116,6 +118,8 @@ rule_name rules.Resent = codes "resent"
 rule_name rules.ResentBeyond = codes "resent-beyond"
 rule_name rules.AckExcess = codes "ack-excess"
 rule_name rules.SackUntrue = codes "sack-untrue"
+rule_name rules.Echo = codes "echo"
+rule_name rules.ClockFalls = codes "clock-falls"
 rule_name rules.SampleDue = codes "sample-due"
 rule_name rules.AnswerLate = codes "answer-late"
 

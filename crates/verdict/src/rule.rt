@@ -115,6 +115,10 @@ pub enum Rule {
     AckExcess,
     /// A selective acknowledgment reports what the host doesn't hold, or wasn't permitted (RFC 2018, 2 to 4).
     SackUntrue,
+    /// A segment doesn't echo the timestamp that it has to (RFC 7323, 3.2 and 4.3).
+    Echo,
+    /// The timestamp of a segment is older than that of one that was built before it (RFC 7323, 5.2).
+    ClockFalls,
     /// A round trip isn't measured, though none was since this data was sent (RFC 6298, 3).
     SampleDue,
     /// A call that can be answered is answered late (RFC 9293, 3.9.1).
@@ -181,6 +185,8 @@ impl Rule {
             Rule::ResentBeyond => "resent-beyond",
             Rule::AckExcess => "ack-excess",
             Rule::SackUntrue => "sack-untrue",
+            Rule::Echo => "echo",
+            Rule::ClockFalls => "clock-falls",
             Rule::SampleDue => "sample-due",
             Rule::AnswerLate => "answer-late",
         }
@@ -244,6 +250,8 @@ impl Rule {
             Rule::ResentBeyond => 51,
             Rule::AckExcess => 52,
             Rule::SackUntrue => 53,
+            Rule::Echo => 54,
+            Rule::ClockFalls => 55,
             Rule::SampleDue => 56,
             Rule::AnswerLate => 57,
         }

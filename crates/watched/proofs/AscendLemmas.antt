@@ -30,11 +30,13 @@ use Rattle.spec_tcp_laws.specs.Ascending.{rule_number, ascend}
 use Rattle.spec_tcp_laws.proofs.Rules.{both_true, at_most_to}
 use Rattle.std.proofs.lemmas.Bool.Decides.{nat_tests}
 use Rattle.spec_duties.specs.declared.answering.CallChange.{CallChange}
-use Rattle.spec_duties.specs.Watching.{answer_rules, built_by, counts_now, duty_rules, sent_by, touched_rules}
+use Rattle.spec_duties.specs.Watching.{answer_rules, built_by, counts_now, duty_rules, sent_by, touched_rules, untrue_rules}
 use Rattle.spec_cases.specs.Cases.{Known, shown, untrue_at, watch_rules}
 use Rattle.spec_duties.specs.declared.observations.Sampling.{Sampling}
 use Rattle.spec_duties.specs.declared.observations.Observation.{Observation}
 use Rattle.spec_duties.specs.declared.observations.TouchedEndpoint.{TouchedEndpoint}
+use Rattle.spec_duties.specs.declared.observations.Untruth.{Untruth}
+use Rattle.spec_duties.specs.declared.observations.Untruth.TheVariants as untruth
 use Rattle.spec_duties.specs.declared.strict.Unsent.{Unsent}
 
 lower : (low high : ℕ) (ys : List (Rule × Bool)) → low ≤ high → ascend high ys ≡ true → ascend low ys ≡ true
@@ -131,15 +133,30 @@ rules_top h moment w (At host d) = tops_host_step h host moment (pick w.hosts (o
 pub watch_ascend : (h : Header) (moment : ℕ) (k : Known) (step : Step tcp_shape) → ascend 40 (watch_rules h moment k step) ≡ true
 watch_ascend h moment k step = by h.slack (shown h moment k step)
   where
-    untrue : Bool
-    untrue = untrue_at h k step
+    untrue : Option Untruth
+    untrue = untrue_at h moment k step
 
-    touched : (slack : ℕ) (counts : Bool) (sent : Option Unsent) (s : Sampling) (change : CallChange) (o : Option TouchedEndpoint)
-        → ascend 43 (on o (answer_rules slack moment k.duties untrue change) (touched_rules h slack moment k.duties counts untrue sent s)) ≡ true
-    touched slack counts sent s change None = refl
-    touched slack counts sent s change (Some t) = refl
+    -- what a segment shows breaks one of 53 to 55
+    alone : (u : Option Untruth) → ascend 40 (untrue_rules u) ≡ true
+    alone None = refl
+    alone (Some untruth.Blocks) = refl
+    alone (Some untruth.Echo) = refl
+    alone (Some untruth.Clock) = refl
+
+    touched : (slack : ℕ) (counts : Bool) (u : Option Untruth) (sent : Option Unsent) (s : Sampling) (change : CallChange)
+        (o : Option TouchedEndpoint)
+        → ascend 43 (on o (answer_rules slack moment k.duties u change) (touched_rules h slack moment k.duties counts u sent s)) ≡ true
+    touched slack counts None sent s change None = refl
+    touched slack counts None sent s change (Some t) = refl
+    touched slack counts (Some untruth.Blocks) sent s change None = refl
+    touched slack counts (Some untruth.Blocks) sent s change (Some t) = refl
+    touched slack counts (Some untruth.Echo) sent s change None = refl
+    touched slack counts (Some untruth.Echo) sent s change (Some t) = refl
+    touched slack counts (Some untruth.Clock) sent s change None = refl
+    touched slack counts (Some untruth.Clock) sent s change (Some t) = refl
 
     by : (o : Option ℕ) (s : Observation)
-        → ascend 40 (on o ((rules.SackUntrue, untrue) ∷ []) (λ slack. duty_rules h slack moment k.duties untrue s)) ≡ true
-    by None s = refl
-    by (Some slack) s = touched slack (counts_now (built_by k.duties s.built_change)) (sent_by k.duties s.built_change) s.sampling s.call_change s.touched
+        → ascend 40 (on o (untrue_rules untrue) (λ slack. duty_rules h slack moment k.duties untrue s)) ≡ true
+    by None s = alone untrue
+    by (Some slack) s = touched slack (counts_now (built_by k.duties s.built_change)) untrue (sent_by k.duties s.built_change) s.sampling s.call_change
+        s.touched

@@ -1,5 +1,5 @@
 -- A step of a case: the rules of the model and of duties, and the case after it.
-use Rattle.std.proofs.Common.{◌≡◌, ℕ, suc, Bool, true, false, List, [], ◌∷◌, ◌++◌, Option, None, Some, Result, Ok, Err, refl, sym, ap, subst, ◌∙◌, inl}
+use Rattle.std.proofs.Common.{◌≡◌, ℕ, suc, Bool, true, false, List, [], ◌++◌, Option, None, Some, Result, Ok, Err, refl, sym, ap, subst, ◌∙◌, inl}
 use Rattle.std.proofs.Common.{inr, ◌⊎◌}
 use Rattle.std.specs.Prelude.{OnOk, IfErr, if◌then◌else◌, not, is_some, ◌&&◌}
 use Rattle.std.specs.Option.{option_map, option_map_or}
@@ -14,7 +14,6 @@ use Rattle.case_forms.specs.declared.trace.Event.TheVariants.{CallBegin, CallEnd
 use Rattle.case_forms.specs.declared.trace.Line.{Line}
 use Rattle.case_forms.specs.declared.trace.Header.{Header}
 use Rattle.verdict.specs.declared.rule.Rule.{Rule}
-use Rattle.verdict.specs.declared.rule.Rule.TheVariants as rules
 use Rattle.verdict.specs.Rules.{first_broken}
 use Rattle.verdict.proofs.RuleLemmas.{none_both, first_broken-append_none, first_broken-append_some}
 use Rattle.spec_network.specs.HostRules.{step_rules}
@@ -44,6 +43,7 @@ use Rattle.spec_cases.specs.Cases.{known_after, model_rules, noted_by, refused_a
 use Rattle.spec_cases.specs.Cases.{with_waits}
 use Rattle.spec_duties.specs.declared.answering.CallChange.TheVariants as call_change
 use Rattle.spec_duties.specs.declared.observations.Observation.{Observation}
+use Rattle.spec_duties.specs.declared.observations.Untruth.{Untruth}
 use Rattle.spec_duties.specs.declared.views.View.{View}
 use Rattle.watched.specs.Watched as watch
 use Rattle.watched.specs.Watched.{IsPlain, case_of, is_bare, known_of, least_broken}
@@ -119,9 +119,9 @@ rules-forget h moment k step =
     (refused-forget h moment k step)
     ∙ ap (λ (rs : List (Rule × Bool)). with_refusal (refused_by h moment k step) rs ++ watch_rules h moment (forget k) step)
     (step_rules-forget h moment k.model step)
-    ∙ ap (λ (b : Bool). model_rules h moment k step ++ judged_rules h moment k.duties b (shown h moment (forget k) step))
-    (untrue-forget h k step)
-    ∙ ap (λ (s : Observation). model_rules h moment k step ++ judged_rules h moment k.duties (untrue_at h k step) (excused h k.flights s))
+    ∙ ap (λ (o : Option Untruth). model_rules h moment k step ++ judged_rules h moment k.duties o (shown h moment (forget k) step))
+    (untrue-forget h moment k step (observe-forget h moment k.model step))
+    ∙ ap (λ (s : Observation). model_rules h moment k step ++ judged_rules h moment k.duties (untrue_at h moment k step) (excused h k.flights s))
     (observe-forget h moment k.model step)
 
 -- if no rule is broken, nothing is refused, and the model permits the step
@@ -228,15 +228,16 @@ module _ (p : Progress) (fs : Flights) (d : Duties) (moment : ℕ) (step : Step 
       ∙ sym (view_excused p.header fs seen w) ∙ sym (ap (λ (s : Observation). view_in w s.touched) tells)
 
   -- what was judged: the rules of duties at what they watch of that step
-  judged_later : (u : Progress) (untrue : Bool) (s : Observation) → untrue ≡ untrue_at p.header known step → u ≡ model_after p moment step → s ≡ told
+  judged_later : (u : Progress) (untrue : Option Untruth) (s : Observation) → untrue ≡ untrue_at p.header moment known step
+      → u ≡ model_after p moment step → s ≡ told
       → first_broken (judged_rules u.header moment d untrue s) ≡ first_broken (watch_rules p.header moment known step)
   judged_later u untrue s asks is sees =
-      ap (λ (b : Bool). first_broken (judged_rules u.header moment d b s)) asks
-      ∙ (ap (λ (u : Progress). first_broken (judged_rules u.header moment d (untrue_at p.header known step) s)) is
-      ∙ ap (λ (s : Observation). first_broken (judged_rules p.header moment d (untrue_at p.header known step) s)) sees)
+      ap (λ (o : Option Untruth). first_broken (judged_rules u.header moment d o s)) asks
+      ∙ (ap (λ (u : Progress). first_broken (judged_rules u.header moment d (untrue_at p.header moment known step) s)) is
+      ∙ ap (λ (s : Observation). first_broken (judged_rules p.header moment d (untrue_at p.header moment known step) s)) sees)
 
-  pub step_admits : {A : Type 0} (r : Result A StepFault) (u : Progress) (untrue : Bool) (s : Observation) (refusal : Option Rule)
-      → untrue ≡ untrue_at p.header known step → refusal ≡ refused_by p.header moment known step
+  pub step_admits : {A : Type 0} (r : Result A StepFault) (u : Progress) (untrue : Option Untruth) (s : Observation) (refusal : Option Rule)
+      → untrue ≡ untrue_at p.header moment known step → refusal ≡ refused_by p.header moment known step
       → refusal ≡ None → first_broken model ≡ None → u ≡ model_after p moment step → s ≡ told
       → OnOk r (first_broken (judged_rules u.header moment d untrue s) ≡ None) → OnOk r (broken_by (case_of p fs d) moment step ≡ None)
   step_admits r u untrue s refusal asks refused none may is sees e =
@@ -244,8 +245,8 @@ module _ (p : Progress) (fs : Flights) (d : Duties) (moment : ℕ) (step : Step 
       (first_broken (judged_rules u.header moment d untrue s)) (fine_by p.header moment known step (sym refused ∙ none) may)
       (judged_later u untrue s asks is sees) e
 
-  pub step_breaks : {A : Type 0} (r : Result A StepFault) (u : Progress) (untrue : Bool) (s : Observation) (refusal : Option Rule)
-      → untrue ≡ untrue_at p.header known step → refusal ≡ refused_by p.header moment known step
+  pub step_breaks : {A : Type 0} (r : Result A StepFault) (u : Progress) (untrue : Option Untruth) (s : Observation) (refusal : Option Rule)
+      → untrue ≡ untrue_at p.header moment known step → refusal ≡ refused_by p.header moment known step
       → refusal ≡ None → first_broken model ≡ None → u ≡ model_after p moment step → s ≡ told
       → IfErr r (λ fault. IfBroken fault (λ rule. first_broken (judged_rules u.header moment d untrue s) ≡ Some rule))
       → IfErr r (λ fault. IfBroken fault (λ rule. broken_by (case_of p fs d) moment step ≡ Some rule))
@@ -305,10 +306,10 @@ module _ (p : Progress) (fs : Flights) (d : Duties) (moment : ℕ) (step : Step 
 -- ---- in versions 1 to 5, without a slack or of a step that shows nothing
 
 -- nothing is broken if nothing is seen
-unseen_rules : (h : Header) (moment : ℕ) (d : Duties) → first_broken (judged_rules h moment d false unseen) ≡ None
+unseen_rules : (h : Header) (moment : ℕ) (d : Duties) → first_broken (judged_rules h moment d None unseen) ≡ None
 unseen_rules h moment d = by h.slack
   where
-    by : (o : Option ℕ) → first_broken (on o ((rules.SackUntrue, false) ∷ []) (λ slack. duty_rules h slack moment d false unseen)) ≡ None
+    by : (o : Option ℕ) → first_broken (on o [] (λ slack. duty_rules h slack moment d None unseen)) ≡ None
     by None = refl
     by (Some slack) = refl
 
@@ -328,11 +329,11 @@ abbrev NothingSeen : Header → Option (Step tcp_shape) → Type 0
 NothingSeen h asked = (h.slack ≡ None) ⊎ ((moment : ℕ) (w : World tcp_shape) → option_map_or (observe h moment w) asked unseen ≡ unseen)
 
 nothing_judged : (h : Header) (moment : ℕ) (w : World tcp_shape) (d : Duties) (step : Step tcp_shape) → NothingSeen h (Some step)
-    → first_broken (judged_rules h moment d false (observe h moment w step)) ≡ None
+    → first_broken (judged_rules h moment d None (observe h moment w step)) ≡ None
 nothing_judged h moment w d step (inl any) =
-    ap (λ (o : Option ℕ). first_broken (on o ((rules.SackUntrue, false) ∷ []) (λ slack. duty_rules h slack moment d false (observe h moment w step)))) any
+    ap (λ (o : Option ℕ). first_broken (on o [] (λ slack. duty_rules h slack moment d None (observe h moment w step)))) any
 nothing_judged h moment w d step (inr sees) =
-    ap (λ (s : Observation). first_broken (judged_rules h moment d false s)) (sees moment w) ∙ unseen_rules h moment d
+    ap (λ (s : Observation). first_broken (judged_rules h moment d None s)) (sees moment w) ∙ unseen_rules h moment d
 
 nothing_kept : (h : Header) (moment : ℕ) (w now : World tcp_shape) (d : Duties) (step : Step tcp_shape) → NothingSeen h (Some step)
     → noted_by h moment now (observe h moment w step) d ≡ d
@@ -357,9 +358,9 @@ plain_rules p fs d moment (Some step) is =
     ap (λ (o : Option Rule). first_broken (with_refusal o model ++ watch_rules p.header moment (known_of p fs d) step))
     (refused_unjudged p.header moment (known_of p fs d) step (not_judging p.header is.0))
     ∙ first_broken-then_none model (watch_rules p.header moment (known_of p fs d) step)
-    (ap (λ (b : Bool). first_broken (judged_rules p.header moment d b (shown p.header moment (known_of p fs d) step)))
-    (unasked p.header (known_of p fs d) step is.0)
-    ∙ ap (λ (s : Observation). first_broken (judged_rules p.header moment d false s))
+    (ap (λ (o : Option Untruth). first_broken (judged_rules p.header moment d o (shown p.header moment (known_of p fs d) step)))
+    (unasked p.header moment (known_of p fs d) step is.0)
+    ∙ ap (λ (s : Observation). first_broken (judged_rules p.header moment d None s))
     (unexcused p.header fs (observe p.header moment p.world step) is.0)
     ∙ nothing_judged p.header moment p.world d step is.1)
 

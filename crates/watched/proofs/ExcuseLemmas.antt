@@ -27,7 +27,7 @@ use Rattle.spec_step.specs.Acts.{step_hidden}
 use Rattle.spec_step.specs.declared.hidden.Hidden.{Hidden}
 use Rattle.spec_duties.specs.Observations.{at_sender, is_done, observe, observe_accept, observe_call, observe_close, observe_effect, observe_host_step}
 use Rattle.spec_duties.specs.Observations.{observe_opened, observe_other, observe_taking, syn_sent, unseen, view_in}
-use Rattle.spec_duties.specs.Arrivals.{stamps_read}
+use Rattle.spec_duties.specs.Arrivals.{acked_sent, stamps_read}
 use Rattle.spec_duties.specs.declared.observations.BuiltChange.TheVariants as built_change
 use Rattle.spec_duties.specs.declared.observations.Dropping.{Dropping}
 use Rattle.spec_duties.specs.declared.observations.Observation.{Observation}
@@ -135,6 +135,7 @@ host_keeps h moment w fresh host s (network.Sends line number wire) is = by (loo
           built_change = built_change.Sends number;
           syn_change = syn_sent h.version m.emission wire.bytes;
           stamps = stamps_read h.version wire.bytes;
+          acked = acked_sent h.version wire m.emission;
         })).dropping
         ≡ None
     by None = refl

@@ -6,6 +6,7 @@ use Rattle.std.specs.Option.{option_map, option_map_or}
 use Rattle.std.proofs.lemmas.List.{length-map}
 use Rattle.std.proofs.lemmas.Option.{slice_get-map}
 use Rattle.case_forms.specs.States.{is_closed}
+use Rattle.case_forms.specs.Versions.{says_sender}
 use Rattle.case_forms.specs.declared.calls.Answer.{Answer}
 use Rattle.case_forms.specs.declared.calls.Answer.TheVariants as answers
 use Rattle.case_forms.specs.declared.calls.Call.{Call}
@@ -13,6 +14,7 @@ use Rattle.case_forms.specs.declared.version.Version.{Version}
 use Rattle.case_forms.specs.declared.calls.Call.TheVariants as calls
 use Rattle.case_forms.specs.declared.calls.Host.{Host}
 use Rattle.case_forms.specs.declared.calls.Host.TheVariants.{Zero, One}
+use Rattle.case_forms.specs.declared.steps.SegmentPlan.{SegmentPlan}
 use Rattle.case_forms.specs.declared.steps.TakeChoice.{TakeChoice}
 use Rattle.case_forms.specs.declared.trace.Header.{Header}
 use Rattle.case_forms.specs.declared.trace.Wire.{Wire}
@@ -50,7 +52,7 @@ use Rattle.spec_duties.specs.declared.owed.Lates.{Lates}
 use Rattle.spec_duties.specs.declared.views.View.{View}
 use Rattle.spec_duties.specs.Dropped.{bare, droppable_by, discards_at, earns_by_dropping, earns_by_taking, is_old, taking_breaks, answering_breaks}
 use Rattle.spec_duties.specs.Sampling.{may_measure, sampling_at}
-use Rattle.spec_duties.specs.Arrivals.{arrival_at, stamps_read}
+use Rattle.spec_duties.specs.Arrivals.{acked_at_ports, acked_built, acked_sent, arrival_at, stamps_read}
 use Rattle.spec_duties.specs.Blocks.{blocks_taken}
 use Rattle.spec_duties.specs.Observations.{syn_dropped, syn_sent, syn_taken}
 use Rattle.spec_duties.specs.Observations.{observe, observe_host_step, at_place, at_ports, at_next, at_sender, at_target, at_drop, unseen}
@@ -155,6 +157,23 @@ arrival-forget h m Nobody = refl
 arrival-forget h m (AtListener l) = refl
 arrival-forget h m (AtEndpoint i e) = rw (read-forget h e m) refl
 
+-- what a segment acknowledges that is built
+acked-forget : (v : Version) (b : HostTcp) (plan : SegmentPlan) (moment : ℕ)
+    → acked_at_ports v (forget_body b) plan moment ≡ acked_at_ports v b plan moment
+acked-forget v b plan moment =
+    ap (λ (n : ℕ). if says_sender v then n else 0) (rw (place-forget b plan.lport plan.rport) (by (place_of b plan.lport plan.rport)))
+  where
+    built : (o : Option Endpoint)
+        → option_map_or (λ e. acked_built e plan moment) (option_map forget_endpoint o) 0 ≡ option_map_or (λ e. acked_built e plan moment) o 0
+    built None = refl
+    built (Some e) = rw (rcv_nxt-forget e) refl
+
+    by : (o : Option ℕ)
+        → option_map_or (λ i. option_map_or (λ e. acked_built e plan moment) (slice_get (map forget_endpoint b.endpoints) i) 0) o 0
+        ≡ option_map_or (λ i. option_map_or (λ e. acked_built e plan moment) (slice_get b.endpoints i) 0) o 0
+    by None = refl
+    by (Some i) = rw (slice_get-map forget_endpoint b.endpoints i) (built (slice_get b.endpoints i))
+
 sender-seen : (host : Host) (b : HostTcp) (wire : Wire) (m : Emission) → at_sender host (forget_body b) wire m ≡ at_sender host b wire m
 sender-seen host b wire m = rw (place-seen host b (sending_of wire m) m.sender.number) refl
 
@@ -169,7 +188,8 @@ host_step-seen : (h : Header) (moment : ℕ) (w : World tcp_shape) (fresh : ℕ)
     → observe_host_step h moment (forget w) fresh host (forget_host s) d ≡ observe_host_step h moment w fresh host s d
 host_step-seen h moment w fresh host s (network.Does x) = rw (ports-seen host s.body _ x.lport x.rport) refl
 host_step-seen h moment w fresh host s (network.Expires line x) = rw (ports-seen host s.body _ x.lport x.rport) refl
-host_step-seen h moment w fresh host s (network.Makes m) = rw (ports-seen host s.body _ m.lport m.rport) refl
+host_step-seen h moment w fresh host s (network.Makes m) =
+    rw (ports-seen host s.body _ m.lport m.rport, acked-forget h.version s.body m moment) refl
 host_step-seen h moment w fresh host s (network.Sends line number wire) = by (lookup (nat_eq number) s.made)
   where
     see : Emission → Option TouchedEndpoint → Observation
@@ -178,6 +198,7 @@ host_step-seen h moment w fresh host s (network.Sends line number wire) = by (lo
       built_change = Sends number;
       syn_change = syn_sent h.version m wire.bytes;
       stamps = stamps_read h.version wire.bytes;
+      acked = acked_sent h.version wire m;
     }
 
     by : (o : Option (Made Emission))

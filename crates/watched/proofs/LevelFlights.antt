@@ -41,12 +41,13 @@ use Rattle.spec_duties.specs.declared.observations.SynChange.TheVariants as syn
 use Rattle.spec_duties.specs.declared.observations.TouchedEndpoint.{TouchedEndpoint}
 use Rattle.spec_duties.specs.Views.{view_of}
 use Rattle.spec_duties.specs.declared.views.View.{View}
-use Rattle.spec_flights.specs.Clocks.{clocks_after, clocks_told, most_after, told_after}
+use Rattle.spec_flights.specs.Clocks.{clocks_after}
 use Rattle.spec_flights.specs.Delivered.{read_reports, without_reports}
+use Rattle.spec_flights.specs.Echoes.{echoes_after}
 use Rattle.spec_flights.specs.Flights.{Flight, Flights, board_after, broken_at, flight_after, flight_at, flight_by, flights_touched, may_begin}
 use Rattle.spec_flights.specs.Flights.{marks_oldest, may_be_probed, may_go_again, refusal, rescued_after}
 use Rattle.spec_flights.specs.Held.{held_after}
-use Rattle.spec_flights.specs.Marks.{goes_again, marked_by, marked_by_event, marks_after, old_part, taken_by}
+use Rattle.spec_flights.specs.Marks.{goes_again, marked_by, marked_by_event, marks_after, taken_by}
 use Rattle.spec_flights.specs.Probing.{is_early_probe, probe_before, probing_after}
 use Rattle.spec_flights.specs.declared.probing.Probe.{Probe}
 use Rattle.spec_flights.specs.declared.probing.Probe.TheVariants as probes
@@ -56,13 +57,14 @@ use Rattle.spec_flights.specs.Scoreboard.{number_built, Scoreboard}
 use Rattle.spec_flights.specs.Sides.{sides_after}
 use Rattle.spec_flights.specs.Undoing.{undoing_after}
 use Rattle.spec_flights.specs.declared.clocks.Clocks.{Clocks}
+use Rattle.spec_flights.specs.declared.clocks.Echoable.{Echoable}
 use Rattle.spec_flights.specs.declared.recovery.Recovery.{Recovery}
 use Rattle.spec_flights.specs.declared.reports.Reports.{Reports}
 use Rattle.spec_flights.specs.declared.sides.Sides.{Sides}
 use Rattle.spec_flights.specs.declared.stretch.Stretch.{Stretch}
 use Rattle.spec_flights.specs.declared.undoing.Undoing.{Undoing}
 use Rattle.spec_cases.specs.Cases.{Known, flown, model_rules, refused_at, refused_by, with_broken, with_refusal}
-use Rattle.watched.specs.Levels.{ShowsHigher, is_old_data, known_judged, observed_with, remaining, touched_with, view_with}
+use Rattle.watched.specs.Levels.{is_old_data, known_judged, observed_with, remaining, touched_with, view_with}
 use Rattle.watched.proofs.LevelObservations.{shows_the_same, view_seen}
 
 -- ---- what is kept doesn't depend on the edge
@@ -197,20 +199,27 @@ undoing_same s (Expires Giveup) a b before after sides c r x u = refl
 undoing_same s (Expires Pto) a b before after sides c r x u = refl
 undoing_same s (Recovers change) a b before after sides c r x u = refl
 
-told_same : (event : Event) (b : ℕ) (after : View) (told : ℕ) → told_after event (view_with b after) told ≡ told_after event after told
-told_same Opens b after told = refl
-told_same (Calls abort) b after told = refl
-told_same (Processes length rst) b after told = refl
-told_same (Drops asks unlimited) b after told = refl
-told_same (Builds m) b after told = refl
-told_same (Sends s) b after told = refl
-told_same (Expires timer) b after told = refl
-told_same (Recovers change) b after told = refl
-
 clocks_same : (s : Observation) (event : Event) (a b : ℕ) (after : View) (c : Clocks)
     → clocks_after (observed_with a s) event (view_with b after) c ≡ clocks_after s event after c
-clocks_same s event a b after c =
-    ap (λ (n : ℕ). clocks_told s.syn_change s.stamps (record c { most = most_after s.arrival s.stamps c; told = n })) (told_same event b after c.told)
+clocks_same s Opens a b after c = refl
+clocks_same s (Calls abort) a b after c = refl
+clocks_same s (Processes length rst) a b after c = refl
+clocks_same s (Drops asks unlimited) a b after c = refl
+clocks_same s (Builds m) a b after c = refl
+clocks_same s (Sends x) a b after c = refl
+clocks_same s (Expires timer) a b after c = refl
+clocks_same s (Recovers change) a b after c = refl
+
+echoes_same : (s : Observation) (event : Event) (a : ℕ) (c : Clocks) (es : List (ℕ × Option Echoable))
+    → echoes_after (observed_with a s) event c es ≡ echoes_after s event c es
+echoes_same s Opens a c es = refl
+echoes_same s (Calls abort) a c es = refl
+echoes_same s (Processes length rst) a c es = refl
+echoes_same s (Drops asks unlimited) a c es = refl
+echoes_same s (Builds m) a c es = refl
+echoes_same s (Sends x) a c es = refl
+echoes_same s (Expires timer) a c es = refl
+echoes_same s (Recovers change) a c es = refl
 
 marks_same : (change : SynChange) (event : Event) (a b : ℕ) (before after : View) (r : Reports) (oldest : Bool) (marks : List ℕ)
     → marks_after change event (view_with a before) (view_with b after) r oldest marks ≡ marks_after change event before after r oldest marks
@@ -229,19 +238,24 @@ flight_same : (moment clock : ℕ) (s : Observation) (t : TouchedEndpoint) (a b 
 flight_same moment clock s t a b after f =
     ap (λ (r : Recovery). flight_by moment clock (observed_with a s) (touched_with a t) (view_with b after) sides r f)
     (recovery_same t.event b after f.recovery)
-    ∙ ap (λ (oldest : Bool). with (marks (view_with a t.before) (view_with b after) oldest) board rescued probing undoing clocks)
+    ∙ ap (λ (oldest : Bool). with (marks (view_with a t.before) (view_with b after) oldest) board rescued probing undoing clocks echoes)
     (oldest_same clock t.event a b t.before after sides now f)
-    ∙ ap (λ (ms : List ℕ). with ms board rescued probing undoing clocks)
+    ∙ ap (λ (ms : List ℕ). with ms board rescued probing undoing clocks echoes)
     (marks_same s.syn_change t.event a b t.before after reports (marks_oldest clock t.event t.before after sides now f) f.marks)
-    ∙ ap (λ (x : Scoreboard). with kept x rescued probing undoing clocks) (board_same moment clock recovers number t.event a b t.before after reports f.board)
-    ∙ ap (λ (used : Bool). with kept held used probing undoing clocks) (rescued_same clock t.event a t.before f)
-    ∙ ap (λ (p : Probing). with kept held (rescued_after clock t.event t.before f) p undoing clocks)
+    ∙ ap (λ (x : Scoreboard). with kept x rescued probing undoing clocks echoes)
+    (board_same moment clock recovers number t.event a b t.before after reports f.board)
+    ∙ ap (λ (used : Bool). with kept held used probing undoing clocks echoes) (rescued_same clock t.event a t.before f)
+    ∙ ap (λ (p : Probing). with kept held (rescued_after clock t.event t.before f) p undoing clocks echoes)
     (probing_same moment t.event a b t.before after f.probing)
-    ∙ ap (λ (u : Undoing). with kept held (rescued_after clock t.event t.before f) (probing_after moment t.event t.before after f.probing) u clocks)
+    ∙ ap (λ (u : Undoing). with kept held (rescued_after clock t.event t.before f) (probing_after moment t.event t.before after f.probing) u clocks
+    echoes)
     (undoing_same s t.event a b t.before after sides f.recovery reports f.board f.undoing)
-    ∙ ap (with kept held (rescued_after clock t.event t.before f) (probing_after moment t.event t.before after f.probing)
-    (undoing_after s t.event t.before after sides f.recovery reports f.board f.undoing))
+    ∙ ap (λ (c : Clocks). with kept held (rescued_after clock t.event t.before f) (probing_after moment t.event t.before after f.probing)
+    (undoing_after s t.event t.before after sides f.recovery reports f.board f.undoing) c echoes)
     (clocks_same s t.event a b after f.clocks)
+    ∙ ap (with kept held (rescued_after clock t.event t.before f) (probing_after moment t.event t.before after f.probing)
+    (undoing_after s t.event t.before after sides f.recovery reports f.board f.undoing) (clocks_after s t.event after f.clocks))
+    (echoes_same s t.event a f.clocks f.echoes)
   where
     sides : Sides
     sides = sides_after s.syn_change f.sides
@@ -280,11 +294,14 @@ flight_same moment clock s t a b after f =
     clocks : Clocks
     clocks = clocks_after (observed_with a s) t.event (view_with b after) f.clocks
 
+    echoes : List (ℕ × Option Echoable)
+    echoes = echoes_after (observed_with a s) t.event f.clocks f.echoes
+
     held : Scoreboard
     held = board_after moment clock recovers number t.event t.before after reports f.board
 
-    with : List ℕ → Scoreboard → Bool → Probing → Undoing → Clocks → Flight
-    with ms x used p u c = record {
+    with : List ℕ → Scoreboard → Bool → Probing → Undoing → Clocks → List (ℕ × Option Echoable) → Flight
+    with ms x used p u c es = record {
       sides = sides;
       recovery = now;
       marks = ms;
@@ -293,6 +310,7 @@ flight_same moment clock s t a b after f =
       probing = p;
       undoing = u;
       clocks = c;
+      echoes = es;
       held = held_after s.kept after.rcv_nxt f.held;
     }
 

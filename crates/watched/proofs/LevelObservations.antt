@@ -1,5 +1,5 @@
 -- What a step shows at another level of congestion control: the same, but for the congestion edge.
-use Rattle.std.proofs.Common.{◌≡◌, ℕ, suc, ◌≤◌, Bool, true, false, List, [], ◌∷◌, Option, None, Some, map, refl, ap, sym, ◌∙◌, arith}
+use Rattle.std.proofs.Common.{◌≡◌, ℕ, suc, ◌≤◌, Bool, true, false, List, [], ◌∷◌, Option, None, Some, map, refl, ap, sym, subst, ◌∙◌, arith}
 use Rattle.std.specs.Prelude.{◌&&◌, if◌then◌else◌, not, slice_get, nat_eq, nat_lt}
 use Rattle.std.specs.Map.{lookup}
 use Rattle.std.specs.Option.{option_map, option_map_or}
@@ -8,12 +8,14 @@ use Rattle.std.proofs.lemmas.List.{length-map}
 use Rattle.std.proofs.lemmas.Option.{slice_get-map}
 use Rattle.case_forms.specs.declared.version.Version.{Version}
 use Rattle.case_forms.specs.States.{is_closed, is_syn_sent}
+use Rattle.case_forms.specs.Versions.{says_sender}
 use Rattle.case_forms.specs.declared.calls.Answer.{Answer}
 use Rattle.case_forms.specs.declared.calls.Answer.TheVariants as answers
 use Rattle.case_forms.specs.declared.calls.Call.{Call}
 use Rattle.case_forms.specs.declared.calls.Call.TheVariants as calls
 use Rattle.case_forms.specs.declared.calls.Host.{Host}
 use Rattle.case_forms.specs.declared.calls.Host.TheVariants.{Zero, One}
+use Rattle.case_forms.specs.declared.steps.SegmentPlan.{SegmentPlan}
 use Rattle.case_forms.specs.declared.steps.TakeChoice.{TakeChoice}
 use Rattle.case_forms.specs.declared.trace.Header.{Header}
 use Rattle.case_forms.specs.declared.trace.Wire.{Wire}
@@ -50,7 +52,7 @@ use Rattle.spec_tcp_laws.proofs.JudgedRules.{MayJudge}
 use Rattle.spec_tcp_laws.proofs.JudgedWorlds.{aim_same, may_judge}
 use Rattle.spec_duties.specs.Dropped.{answering_breaks, bare, discards_at, droppable_by, earns_by_dropping, earns_by_taking, is_old, taking_breaks}
 use Rattle.spec_duties.specs.Sampling.{sampling_at}
-use Rattle.spec_duties.specs.Arrivals.{arrival_at, stamps_read}
+use Rattle.spec_duties.specs.Arrivals.{acked_at_ports, acked_built, acked_sent, arrival_at, stamps_read}
 use Rattle.spec_duties.specs.Blocks.{blocks_taken}
 use Rattle.spec_duties.specs.Kept.{kept_at}
 use Rattle.spec_duties.specs.Observations.{syn_dropped, syn_sent, syn_taken}
@@ -62,7 +64,8 @@ use Rattle.spec_duties.specs.Observations.{observe_open, observe_pending, observ
 use Rattle.spec_duties.specs.Observations.{sending_of, observe, observe_taking, unseen, view_in}
 use Rattle.spec_duties.specs.Views.{unborn, view_of}
 use Rattle.spec_duties.specs.declared.events.Event.{Event}
-use Rattle.spec_duties.specs.declared.observations.BuiltChange.TheVariants.{Sends}
+use Rattle.spec_duties.specs.declared.events.Event.TheVariants.{Builds}
+use Rattle.spec_duties.specs.declared.observations.BuiltChange.TheVariants as built_change
 use Rattle.spec_duties.specs.declared.observations.Queueing.{Queueing}
 use Rattle.spec_duties.specs.declared.observations.Queueing.TheVariants as queueing
 use Rattle.spec_duties.specs.declared.observations.Observation.{Observation}
@@ -248,6 +251,23 @@ earning_drop_same p v m taking Nobody = refl
 earning_drop_same p v m taking (AtListener l) = refl
 earning_drop_same p v m taking (AtEndpoint i e) = refl
 
+-- what a segment acknowledges that is built
+acked_same : (p : Profile) (v : Version) (b : HostTcp) (plan : SegmentPlan) (moment : ℕ)
+    → acked_at_ports v (body_by p b) plan moment ≡ acked_at_ports v b plan moment
+acked_same p v b plan moment =
+    ap (λ (n : ℕ). if says_sender v then n else 0) (rw (place_by p b plan.lport plan.rport) (by (place_of b plan.lport plan.rport)))
+  where
+    built : (o : Option Endpoint)
+        → option_map_or (λ e. acked_built e plan moment) (option_map (endpoint_by p) o) 0 ≡ option_map_or (λ e. acked_built e plan moment) o 0
+    built None = refl
+    built (Some e) = refl
+
+    by : (o : Option ℕ)
+        → option_map_or (λ i. option_map_or (λ e. acked_built e plan moment) (slice_get (map (endpoint_by p) b.endpoints) i) 0) o 0
+        ≡ option_map_or (λ i. option_map_or (λ e. acked_built e plan moment) (slice_get b.endpoints i) 0) o 0
+    by None = refl
+    by (Some i) = rw (slice_get-map (endpoint_by p) b.endpoints i) (built (slice_get b.endpoints i))
+
 -- ---- acts of a host
 
 -- from what is touched to what is shown
@@ -270,15 +290,23 @@ host_step_seen p j h moment w fresh host s (network.Does x) may =
 host_step_seen p j h moment w fresh host s (network.Expires line x) may =
     shown (observe_host_step h moment w fresh host s (network.Expires line x)) _ (ports_seen p host s.body _ x.lport x.rport may)
 host_step_seen p j h moment w fresh host s (network.Makes m) may =
-    shown (observe_host_step h moment w fresh host s (network.Makes m)) _ (ports_seen p host s.body _ m.lport m.rport may)
+    subst (λ (acked : ℕ). ShowsHigher (made (at_ports host s.body (Builds m) m.lport m.rport) (acked_at_ports h.version s.body m moment))
+    (made (at_ports host (body_by p s.body) (Builds m) m.lport m.rport) acked))
+    (sym (acked_same p h.version s.body m moment))
+    (shown (made (at_ports host s.body (Builds m) m.lport m.rport) (acked_at_ports h.version s.body m moment)) _
+    (ports_seen p host s.body (Builds m) m.lport m.rport may))
+  where
+    made : Option TouchedEndpoint → ℕ → Observation
+    made t acked = record unseen { touched = t; built_change = built_change.Builds fresh; acked = acked }
 host_step_seen p j h moment w fresh host s (network.Sends line number wire) may = by (lookup (nat_eq number) s.made)
   where
     see : Emission → Option TouchedEndpoint → Observation
     see m t = record unseen {
       touched = t;
-      built_change = Sends number;
+      built_change = built_change.Sends number;
       syn_change = syn_sent h.version m wire.bytes;
       stamps = stamps_read h.version wire.bytes;
+      acked = acked_sent h.version wire m;
     }
 
     by : (o : Option (Made Emission))

@@ -26,8 +26,8 @@ use Rattle.spec_tcp_laws.specs.Levels.{is_of_level, other_rules}
 use Rattle.spec_tcp_laws.proofs.JudgedRuns.{judged_step}
 use Rattle.spec_tcp_laws.proofs.JudgedWorlds.{after_kept, aim_same}
 use Rattle.spec_tcp_laws.proofs.LevelLemmas.{step_alike}
-use Rattle.duties.proofs.SlackLemmas.{AreFewer, fewer_none}
-use Rattle.spec_duties.specs.Answering.{Waits, any_call, is_unanswered_late, waits_after}
+use Rattle.duties.proofs.SlackLemmas.{AreFewer, fewer_none, fewer_shown}
+use Rattle.spec_duties.specs.Answering.{Waits, any_call, is_answer_late, is_unanswered_late, waits_after}
 use Rattle.spec_duties.specs.declared.answering.CallChange.{CallChange}
 use Rattle.spec_cases.specs.Cases.{Dutiful, Known, flown, judged_rules, known_after, known_after_all, late_at_end, model_rules, noted_by}
 use Rattle.spec_cases.specs.Cases.{shown, untrue_at, watch_rules}
@@ -44,8 +44,11 @@ use Rattle.spec_duties.specs.Observations.{observe, view_in}
 use Rattle.spec_duties.specs.declared.observations.Observation.{Observation}
 use Rattle.spec_duties.specs.declared.observations.Sampling.{Sampling}
 use Rattle.spec_duties.specs.declared.observations.TouchedEndpoint.{TouchedEndpoint}
+use Rattle.spec_duties.specs.declared.observations.Untruth.{Untruth}
+use Rattle.spec_duties.specs.declared.observations.Untruth.TheVariants as untruth
+use Rattle.spec_duties.specs.Sampling.{is_sample_due}
 use Rattle.spec_duties.specs.Watching.{Duties, builds_mere_ack, built_after, built_by, counts_now, credits_after, duties_after, duty_rules}
-use Rattle.spec_duties.specs.Watching.{answer_rules, sent_by, strict_table_after, touched_rules, unsent_after}
+use Rattle.spec_duties.specs.Watching.{answer_rules, sent_by, strict_by, strict_table_after, touched_rules, unsent_after, untrue_rules}
 use Rattle.spec_duties.specs.declared.owed.Lates.{Lates}
 use Rattle.spec_duties.specs.declared.owed.Owed.{Owed}
 use Rattle.spec_duties.specs.declared.observations.BuiltChange.{BuiltChange}
@@ -246,19 +249,18 @@ judged_by : (gate a b : Bool) → (a ≡ false → b ≡ false) → (gate && a) 
 judged_by true a b less e = less e
 judged_by false a b less e = refl
 
-touched_fewer : (j : Judged) (h : Header) (slack moment : ℕ) (d : Duties) (counts untrue : Bool) (sent : Option Unsent) (s : Sampling) (edge : ℕ)
-    (change : CallChange) (o : Option TouchedEndpoint)
+touched_fewer : (j : Judged) (h : Header) (slack moment : ℕ) (d : Duties) (counts : Bool) (untrue : Option Untruth) (sent : Option Unsent)
+    (s : Sampling) (edge : ℕ) (change : CallChange) (o : Option TouchedEndpoint)
     → extent j ≤ extent h.congestion
     → EndsBelow edge o
     → AreFewer (on o (answer_rules slack moment d untrue change) (touched_rules h slack moment d counts untrue sent s))
     (on (option_map (touched_with edge) o) (answer_rules slack moment d untrue change)
     (touched_rules (header_by j h) slack moment d counts untrue sent s))
-touched_fewer j h slack moment d counts untrue sent s edge change None le higher = (λ e. e, (λ e. e, tt))
-touched_fewer j h slack moment d counts untrue sent s edge change (Some t) le higher = (
-  λ e. e,
-  (
-    λ e. e,
-    (
+touched_fewer j h slack moment d counts untrue sent s edge change None le higher =
+    fewer_shown untrue ((rules.AnswerLate, is_answer_late slack moment d.waits change) ∷ [])
+    ((rules.AnswerLate, is_answer_late slack moment d.waits change) ∷ []) (λ e. e, tt)
+touched_fewer j h slack moment d counts untrue sent s edge change (Some t) le higher =
+    let due : Rule × Bool = (rules.SampleDue, is_sample_due s (strict_by d t.host t.place).timed) in (
       λ e. e,
       (
         λ e. e,
@@ -267,23 +269,28 @@ touched_fewer j h slack moment d counts untrue sent s edge change (Some t) le hi
           (
             λ e. e,
             (
-              judged_by (not (says_sender h.version)) _ _ (resent_less j h.congestion edge t.event t.before _ le),
+              λ e. e,
               (
-                judged_by (not (says_sender h.version)) _ _ (beyond_less j h.congestion edge t.event t.before le higher),
-                (λ e. e, (λ e. e, (λ e. e, tt))),
+                λ e. e,
+                (
+                  judged_by (not (says_sender h.version)) _ _ (resent_less j h.congestion edge t.event t.before _ le),
+                  (
+                    judged_by (not (says_sender h.version)) _ _ (beyond_less j h.congestion edge t.event t.before le higher),
+                    (λ e. e, fewer_shown untrue (due ∷ []) (due ∷ []) (λ e. e, tt)),
+                  ),
+                ),
               ),
             ),
           ),
         ),
       ),
-    ),
-  ),
-)
+    )
 
-rules_fewer : (j : Judged) (h : Header) (moment : ℕ) (d : Duties) (edge : ℕ) (untrue : Bool) (s : Observation) (slack : Option ℕ)
+rules_fewer : (j : Judged) (h : Header) (moment : ℕ) (d : Duties) (edge : ℕ) (untrue : Option Untruth) (s : Observation)
+    (slack : Option ℕ)
     → extent j ≤ extent h.congestion → EndsBelow edge s.touched
-    → first_broken (on slack ((rules.SackUntrue, untrue) ∷ []) (λ slack. duty_rules h slack moment d untrue s)) ≡ None
-    → first_broken (on slack ((rules.SackUntrue, untrue) ∷ []) (λ slack. duty_rules (header_by j h) slack moment d untrue (observed_with edge s))) ≡ None
+    → first_broken (on slack (untrue_rules untrue) (λ slack. duty_rules h slack moment d untrue s)) ≡ None
+    → first_broken (on slack (untrue_rules untrue) (λ slack. duty_rules (header_by j h) slack moment d untrue (observed_with edge s))) ≡ None
 rules_fewer j h moment d edge untrue s None le higher e = e
 rules_fewer j h moment d edge untrue s (Some slack) le higher e =
     fewer_none (duty_rules h slack moment d untrue s) (duty_rules (header_by j h) slack moment d untrue (observed_with edge s)) (
@@ -314,11 +321,11 @@ watch_passes : (j : Judged) (h : Header) (moment : ℕ) (k : Known) (step : Step
     → first_broken (watch_rules h moment k step) ≡ None → first_broken (watch_rules (header_by j h) moment (known_judged j h k) step) ≡ None
 watch_passes j h moment k step le is e =
     let seen = shows_the_same j h moment k.model step le is in
-    ap (λ (b : Bool). first_broken (judged_rules (header_by j h) moment k.duties b (shown (header_by j h) moment (known_judged j h k) step)))
-    (untrue_judged j h k step)
-    ∙ ap (λ (s : Observation). first_broken (judged_rules (header_by j h) moment k.duties (untrue_at h k step) s))
+    ap (λ (o : Option Untruth). first_broken (judged_rules (header_by j h) moment k.duties o (shown (header_by j h) moment (known_judged j h k) step)))
+    (untrue_judged j h moment k step seen.0 seen.1)
+    ∙ ap (λ (s : Observation). first_broken (judged_rules (header_by j h) moment k.duties (untrue_at h moment k step) s))
     (shown_with j h moment k step seen.0 seen.1)
-    ∙ rules_fewer j h moment k.duties seen.0 (untrue_at h k step) (shown h moment k step) h.slack le
+    ∙ rules_fewer j h moment k.duties seen.0 (untrue_at h moment k step) (shown h moment k step) h.slack le
     (ends_excused h k.flights seen.0 (observe h moment k.model step) seen.2) e
 
 -- of the other rules, it breaks the same
@@ -332,7 +339,7 @@ others_both ((r, b) ∷ xs) ys = by (is_of_level r) (others_both xs ys)
     by true rest = rest
     by false rest = ap (λ (zs : List (Rule × Bool)). (r, b) ∷ zs) rest
 
-duties_alike : (j : Judged) (h : Header) (moment : ℕ) (d : Duties) (edge : ℕ) (untrue : Bool) (s : Observation)
+duties_alike : (j : Judged) (h : Header) (moment : ℕ) (d : Duties) (edge : ℕ) (untrue : Option Untruth) (s : Observation)
     → other_rules (judged_rules (header_by j h) moment d untrue (observed_with edge s)) ≡ other_rules (judged_rules h moment d untrue s)
 duties_alike j h moment d edge untrue s = by h.slack s.touched
   where
@@ -340,11 +347,19 @@ duties_alike j h moment d edge untrue s = by h.slack s.touched
     with o = record s { touched = o }
 
     by : (slack : Option ℕ) (o : Option TouchedEndpoint)
-        → other_rules (on slack ((rules.SackUntrue, untrue) ∷ []) (λ slack. duty_rules (header_by j h) slack moment d untrue (observed_with edge (with o))))
-        ≡ other_rules (on slack ((rules.SackUntrue, untrue) ∷ []) (λ slack. duty_rules h slack moment d untrue (with o)))
+        → other_rules (on slack (untrue_rules untrue) (λ slack. duty_rules (header_by j h) slack moment d untrue (observed_with edge (with o))))
+        ≡ other_rules (on slack (untrue_rules untrue) (λ slack. duty_rules h slack moment d untrue (with o)))
     by None o = refl
     by (Some slack) None = refl
-    by (Some slack) (Some t) = refl
+    by (Some slack) (Some t) = shown untrue
+      where
+        shown : (untrue : Option Untruth)
+            → other_rules (duty_rules (header_by j h) slack moment d untrue (observed_with edge (with (Some t))))
+            ≡ other_rules (duty_rules h slack moment d untrue (with (Some t)))
+        shown None = refl
+        shown (Some untruth.Blocks) = refl
+        shown (Some untruth.Echo) = refl
+        shown (Some untruth.Clock) = refl
 
 pub case_alike : (j : Judged) (h : Header) → CaseJudgedAlike j h
 case_alike j h moment k step le is =
@@ -356,11 +371,11 @@ case_alike j h moment k step le is =
     ∙ ap (λ (xs : List (Rule × Bool)). xs ++ remaining h.version (other_rules (watch_rules (header_by j h) moment (known_judged j h k) step)))
     (model_alike j h moment k step le is (step_alike (profile_of (header_by j h)) j h moment k.model step))
     ∙ ap (λ (xs : List (Rule × Bool)). remaining h.version (other_rules (model_rules h moment k step)) ++ remaining h.version xs)
-    (ap (λ (b : Bool). other_rules (judged_rules (header_by j h) moment k.duties b (shown (header_by j h) moment (known_judged j h k) step)))
-    (untrue_judged j h k step)
-    ∙ ap (λ (s : Observation). other_rules (judged_rules (header_by j h) moment k.duties (untrue_at h k step) s))
+    (ap (λ (o : Option Untruth). other_rules (judged_rules (header_by j h) moment k.duties o (shown (header_by j h) moment (known_judged j h k) step)))
+    (untrue_judged j h moment k step seen.0 seen.1)
+    ∙ ap (λ (s : Observation). other_rules (judged_rules (header_by j h) moment k.duties (untrue_at h moment k step) s))
     (shown_with j h moment k step seen.0 seen.1)
-    ∙ duties_alike j h moment k.duties seen.0 (untrue_at h k step) (shown h moment k step))
+    ∙ duties_alike j h moment k.duties seen.0 (untrue_at h moment k step) (shown h moment k step))
     ∙ sym (remaining_both h.version (other_rules (model_rules h moment k step)) (other_rules (watch_rules h moment k step)))
     ∙ sym (ap (remaining h.version) (others_both (model_rules h moment k step) (watch_rules h moment k step)))
 

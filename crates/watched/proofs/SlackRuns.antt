@@ -1,23 +1,22 @@
 -- Runs of a case with a greater slack: no more is refused, and the same is kept but for credits, of which no less are left.
-use Rattle.std.proofs.Common.{◌≡◌, ℕ, ◌≤◌, Bool, ◌&&◌, List, [], ◌∷◌, Option, None, Some, refl, ap, sym, subst, ◌∙◌, arith}
+use Rattle.std.proofs.Common.{◌≡◌, ℕ, ◌≤◌, List, [], ◌∷◌, Option, None, Some, refl, ap, sym, subst, ◌∙◌, arith}
 use Rattle.case_forms.specs.declared.calls.Host.{Host}
 use Rattle.case_forms.specs.declared.calls.Host.TheVariants.{Zero, One}
 use Rattle.case_forms.specs.declared.trace.Header.{Header}
-use Rattle.case_forms.specs.Versions.{says_sender}
 use Rattle.verdict.specs.Rules.{first_broken}
-use Rattle.verdict.specs.declared.rule.Rule.TheVariants as rules
 use Rattle.spec_network.specs.HostSteps.{Lawful, after}
 use Rattle.spec_network.specs.Hosts.{HostStep, Stamped, Step, World, Does, Expires, Makes, Sends, Gets, Hears, Takes, Drops, Answers, Begin, Finish, Effect, At}
 use Rattle.spec_network.specs.Tables.{pick}
 use Rattle.spec_tcp.specs.Machine.{tcp, tcp_shape}
-use Rattle.duties.proofs.SlackLemmas.{late_any, less_late, nothing_judged, slack_is_hardly_noted, truly_reported}
+use Rattle.duties.proofs.SlackLemmas.{late_any, less_late, nothing_judged, slack_is_hardly_noted, truly_shown}
 use Rattle.spec_cases.specs.Cases.{Dutiful, Known, first_known, flown, judged_rules, known_after, known_after_all, late_at_end, noted_by, refused_at}
-use Rattle.spec_cases.specs.Cases.{refused_by, shown, untrue_at, untrue_by, untrue_sent, watch_rules}
+use Rattle.spec_cases.specs.Cases.{refused_by, shown, shows_untrue, untrue_at, untrue_by, watch_rules}
 use Rattle.spec_flights.specs.Flights.{Flights, excused, refusal}
 use Rattle.spec_duties.specs.Observations.{observe}
 use Rattle.spec_cases.specs.Slack.{AreInOrder, AtMost, HasMoreCredits, credits_left, with_slack}
-use Rattle.spec_duties.specs.Watching.{Duties}
+use Rattle.spec_duties.specs.Watching.{Duties, untrue_rules}
 use Rattle.spec_duties.specs.declared.observations.Observation.{Observation}
+use Rattle.spec_duties.specs.declared.observations.Untruth.{Untruth}
 use Rattle.watched.proofs.SlackLemmas.{after_same, rules_same, observed_same}
 
 -- the model's run is the same
@@ -83,16 +82,20 @@ module _ (x y : Option ℕ) (h : Header) where
       at (Drops line) = refl
       at (Answers line) = refl
 
-  untrue_too : (few many : Known) (step : Step tcp_shape) → IsSame few many → untrue_at two many step ≡ untrue_at one few step
-  untrue_too few many (Begin line t call) same = refl
-  untrue_too few many (Finish line t answer) same = refl
-  untrue_too few many (Effect t answer) same = refl
-  untrue_too few many (At host d) same = ap (λ (b : Bool). says_sender h.version && b) (at d)
+  untrue_too : (moment : ℕ) (few many : Known) (step : Step tcp_shape) → IsSame few many
+      → untrue_at two moment many step ≡ untrue_at one moment few step
+  untrue_too moment few many (Begin line t call) same = refl
+  untrue_too moment few many (Finish line t answer) same = refl
+  untrue_too moment few many (Effect t answer) same = refl
+  untrue_too moment few many (At host d) same = at d
     where
-      at : (d : HostStep tcp_shape) → untrue_by many host d ≡ untrue_by few host d
+      at : (d : HostStep tcp_shape) → untrue_by two moment many host d ≡ untrue_by one moment few host d
       at (Sends line number wire) =
-          ap (λ (w : World tcp_shape). untrue_sent many.flights host (pick w.hosts host) number wire) same.model
-          ∙ ap (λ (fs : Flights). untrue_sent fs host (pick few.model.hosts host) number wire) same.flights
+          ap (shows_untrue two many.flights host (pick many.model.hosts host) number wire) (seen moment few many (At host (Sends line number wire)) same)
+          ∙ ap (λ (w : World tcp_shape). shows_untrue one many.flights host (pick w.hosts host) number wire
+          (observe one moment few.model (At host (Sends line number wire)))) same.model
+          ∙ ap (λ (fs : Flights). shows_untrue one fs host (pick few.model.hosts host) number wire
+          (observe one moment few.model (At host (Sends line number wire)))) same.flights
       at (Does x) = refl
       at (Makes m) = refl
       at (Expires line x) = refl
@@ -120,11 +123,11 @@ dutiful_none x h few many (s ∷ xs) same kept = (
   record {
     duties =
         ap first_broken
-        (nothing_judged (with_slack None h) s.moment many.duties (untrue_at (with_slack None h) many s.step)
+        (nothing_judged (with_slack None h) s.moment many.duties (untrue_at (with_slack None h) s.moment many s.step)
         (shown (with_slack None h) s.moment many s.step) refl)
-        ∙ ap (λ (b : Bool). first_broken ((rules.SackUntrue, b) ∷ []))
-        (untrue_too x None h few many s.step same
-        ∙ truly_reported (with_slack x h) s.moment few.duties (untrue_at (with_slack x h) few s.step)
+        ∙ ap (λ (o : Option Untruth). first_broken (untrue_rules o))
+        (untrue_too x None h s.moment few many s.step same
+        ∙ truly_shown (with_slack x h) s.moment few.duties (untrue_at (with_slack x h) s.moment few s.step)
         (shown (with_slack x h) s.moment few s.step) kept.0.duties);
     flights = refused x None h s.moment few many s.step same ∙ kept.0.flights;
   },
@@ -148,11 +151,11 @@ module _ (less more : ℕ) (le : less ≤ more) (h : Header) where
   watch_passes : (moment : ℕ) (few many : Known) (step : Step tcp_shape) → IsAlike few many → first_broken (watch_rules a moment few step) ≡ None
       → first_broken (watch_rules b moment many step) ≡ None
   watch_passes moment few many step alike e =
-      ap (λ (s : Observation). first_broken (judged_rules b moment many.duties (untrue_at b many step) s))
+      ap (λ (s : Observation). first_broken (judged_rules b moment many.duties (untrue_at b moment many step) s))
       (seen_by_duties (Some less) (Some more) h moment few many step alike.same)
-      ∙ ap (λ (x : Bool). first_broken (judged_rules b moment many.duties x (shown a moment few step)))
-      (untrue_too (Some less) (Some more) h few many step alike.same)
-      ∙ (less_late (Some less) (Some more) le).steps h moment few.duties many.duties (untrue_at a few step) (shown a moment few step) alike.duties e
+      ∙ ap (λ (o : Option Untruth). first_broken (judged_rules b moment many.duties o (shown a moment few step)))
+      (untrue_too (Some less) (Some more) h moment few many step alike.same)
+      ∙ (less_late (Some less) (Some more) le).steps h moment few.duties many.duties (untrue_at a moment few step) (shown a moment few step) alike.duties e
 
   known_alike : (moment : ℕ) (few many : Known) (step : Step tcp_shape) → IsAlike few many → first_broken (watch_rules a moment few step) ≡ None
       → IsAlike (known_after a moment few step) (known_after b moment many step)
@@ -161,7 +164,7 @@ module _ (less more : ℕ) (le : less ≤ more) (h : Header) where
     duties =
         subst (λ (d : Duties). HasMoreCredits (noted_by a moment (after (tcp a) moment few.model step) (shown a moment few step) few.duties) d)
         (sym noted)
-        (slack_is_hardly_noted h less more moment (after (tcp a) moment few.model step) (untrue_at a few step) (shown a moment few step) few.duties
+        (slack_is_hardly_noted h less more moment (after (tcp a) moment few.model step) (untrue_at a moment few step) (shown a moment few step) few.duties
         many.duties le
         alike.duties e);
   }

@@ -1,18 +1,21 @@
-//! What reaches an endpoint, as that reads it; and the timestamps of a segment.
+//! What reaches an endpoint, as that reads it; the timestamps of a segment; and what one acknowledges that is built or
+//! sent.
 //! `lib.rt` says why functions here are inlined.
 
 ghost use Rattle.std.specs.Prelude.{◌≡◌};
 ghost use Rattle.endpoint_state.specs.Kept.{AreReadable};
-ghost use Rattle.spec_duties.specs.Arrivals.{arrival_at, arrival_of, stamps_read};
+ghost use Rattle.spec_duties.specs.Arrivals.{acked_at_ports, acked_built, acked_sent, arrival_at, arrival_of};
+ghost use Rattle.spec_duties.specs.Arrivals.{stamps_read};
 ghost use Rattle.watched.specs.Targets.{taker_at};
 
 use crate::blocks::reads_blocks;
-use case_forms::Version;
+use case_forms::{SegmentPlan, Version, Wire};
 use duties::Target;
+use endpoint::{is_before_text, raised_at};
 use endpoint_state::HostTcp;
 use segment::{TimestampPair, timestamps};
 use spec_duties::Arrival;
-use spec_tcp::{Arrived, Emission};
+use spec_tcp::{Arrived, Emission, Endpoint};
 
 /// The timestamps of a segment with these bytes. Versions 1 to 5 don't ask.
 #[inline(always)]
@@ -58,5 +61,48 @@ pub(crate) fn arrival_at(
         Some(arrival_of(&Arrived::read(version, e, m)))
     } else {
         None
+    }
+}
+
+// The position that a segment acknowledges at least which an endpoint builds at a moment, in microseconds.
+fn acked_built(e: &Endpoint, plan: &SegmentPlan, moment: u64) -> u64
+    ensures { result ≡ acked_built e.now plan.now moment }
+{
+    if plan.flags.ack {
+        e.rcv_nxt().saturating_sub(raised_at(e, plan, moment))
+    } else {
+        0
+    }
+}
+
+/// The same at the endpoint of its ports. Versions 1 to 5 don't ask.
+#[inline(always)]
+pub(crate) fn acked_at_ports(version: Version, b: &HostTcp, plan: &SegmentPlan, moment: u64) -> u64
+    ensures { result ≡ acked_at_ports version b.now plan.now moment }
+{
+    if !version.says_sender() {
+        return 0;
+    }
+    let Some(place) = b.place_of(plan.lport, plan.rport) else {
+        return 0;
+    };
+    match b.endpoint_at(place) {
+        Some(e) => acked_built(e, plan, moment),
+        None => 0,
+    }
+}
+
+/// The position that the line of a segment shows as acknowledged. Versions 1 to 5 don't ask.
+#[inline(always)]
+pub(crate) fn acked_sent(version: Version, wire: &Wire, m: &Emission) -> u64
+    ensures { result ≡ acked_sent version wire.now m.now }
+{
+    if !version.says_sender() || !m.flags.ack {
+        return 0;
+    }
+    if is_before_text(wire, m) {
+        m.ack.saturating_sub(m.raised)
+    } else {
+        m.ack
     }
 }

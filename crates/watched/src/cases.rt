@@ -1,7 +1,7 @@
 //! The model of a case with its duties.
 //! `lib.rt` says why functions here are inlined.
 
-ghost use Rattle.std.specs.Prelude.{◌≡◌, ◌<◌, ◌≤◌, false, ◌∷◌, [], IsTrue, Some, None, OnOk, IfErr};
+ghost use Rattle.std.specs.Prelude.{◌≡◌, ◌<◌, ◌≤◌, IsTrue, Some, None, OnOk, IfErr};
 ghost use Rattle.case_forms.specs.declared.named_line.Extras.{Extras};
 ghost use Rattle.verdict.specs.Rules.{first_broken};
 ghost use Rattle.spec_step.specs.Acts.{IsSmall, step_hidden};
@@ -11,23 +11,23 @@ ghost use Rattle.spec_tcp.specs.Bounds.{most_steps};
 ghost use Rattle.spec_cases.specs.Cases.{after, asked_after, asked_rules, broken_by, judged_rules, late_at_end};
 ghost use Rattle.spec_cases.specs.Cases.{noted_by, refused_by, with_waits};
 ghost use Rattle.spec_cases.specs.Cases.{shown, start, untrue_at};
-ghost use Rattle.verdict.specs.declared.rule.Rule.TheVariants as rules;
 ghost use Rattle.spec_duties.specs.Observations.{observe};
 ghost use Rattle.spec_duties.specs.Observations as views;
+ghost use Rattle.spec_duties.specs.Watching.{untrue_rules};
 ghost use Rattle.watched.specs.Watched.{IsPlain, case_of, is_bare, known_of, with_refusal};
 
 use crate::calls::observe_effect;
 use crate::case_end;
-use crate::kept::untrue_sent;
+use crate::kept::shows_untrue;
 use crate::observations::{
     observe_hidden, observe_line, observe_making, observe_sending, observe_taking, view_in,
 };
 use crate::waiting::note_waits;
 use case_forms::{Event, Extras, Header, Line, OutOfMemory, TakenLine};
-use duties::{Duties, judged_slack};
+use duties::{Duties, judged_slack, rule_of};
 use endpoint_state::{StepFault, World};
 use flights::Flights;
-use spec_duties::{Observation, View};
+use spec_duties::{Observation, Untruth, View};
 use spec_step::{Hidden, ModelStep};
 use std::alloc::Global;
 use std::marker::Model;
@@ -137,17 +137,16 @@ fn note_waits_if(
     }
 }
 
-// Whether a step sends no selective acknowledgment that isn't true.
+// Whether the line of a segment shows nothing that may not be.
 #[inline(always)]
-fn admits_truth(untrue: bool) -> Result<(), StepFault>
-    ensures ok { OnOk result (first_broken ((rules.SackUntrue, untrue) ∷ []) ≡ None) }
+fn admits_truth(untrue: Option<Untruth>) -> Result<(), StepFault>
+    ensures ok { OnOk result (first_broken (untrue_rules untrue) ≡ None) }
     ensures broken { IfErr result (λ fault. IfBroken fault
-        (λ rule. first_broken ((rules.SackUntrue, untrue) ∷ []) ≡ Some rule)) }
+        (λ rule. first_broken (untrue_rules untrue) ≡ Some rule)) }
 {
-    if untrue {
-        Err(StepFault::Broken(Rule::SackUntrue))
-    } else {
-        Ok(())
+    match untrue {
+        Some(untruth) => Err(StepFault::Broken(rule_of(untruth))),
+        None => Ok(()),
     }
 }
 
@@ -157,7 +156,7 @@ fn watch(
     world: &World,
     duties: &mut Duties,
     moment: u64,
-    untrue: bool,
+    untrue: Option<Untruth>,
     seen: &Observation,
     after: &View,
 ) -> Result<(), StepFault>
@@ -201,23 +200,23 @@ fn with_refusal(done: Result<(), StepFault>, refusal: Option<Rule>) -> Result<()
     }
 }
 
-// What is known of a step by what is kept of data in flight: the rule that it breaks, whether it sends a selective
-// acknowledgment that isn't true, and what duties see of it.
+// What is known of a step by what is kept of data in flight: the rule that it breaks, what the line of a segment shows
+// that may not be, and what duties see of it.
 #[derive(Clone, Copy)]
 struct Flown<'a> {
     refusal: Option<Rule>,
-    untrue: bool,
+    untrue: Option<Untruth>,
     shown: &'a Observation,
 }
 
 // The same of a step that sends nothing.
 #[inline(always)]
 fn refused<'a>(refusal: Option<Rule>, shown: &'a Observation) -> Flown<'a>
-    ensures { result ≡ record { refusal = refusal; untrue = false; shown = shown.entry } }
+    ensures { result ≡ record { refusal = refusal; untrue = None; shown = shown.entry } }
 {
     Flown {
         refusal,
-        untrue: false,
+        untrue: None,
         shown,
     }
 }
@@ -240,7 +239,7 @@ fn watch_step<S: ModelStep>(
     requires refused { flown.refusal
         ≡ refused_by world.old.header moment (known_of world.old flights.old duties.old) (S.step step) }
     requires untrue { flown.untrue
-        ≡ untrue_at world.old.header (known_of world.old flights.old duties.old) (S.step step) }
+        ≡ untrue_at world.old.header moment (known_of world.old flights.old duties.old) (S.step step) }
     requires shown { flown.shown.now
         ≡ shown world.old.header moment (known_of world.old flights.old duties.old) (S.step step) }
     ensures ok { OnOk result (case_of world.new flights.new duties.new
@@ -317,8 +316,7 @@ fn judge_line(
             ..
         } => {
             let seen = observe_sending(world, *host, *made, wire);
-            let untrue = world.header().version.says_sender()
-                && untrue_sent(world, flights, *host, *made, wire);
+            let untrue = shows_untrue(world, flights, *host, *made, wire, &seen);
             let flown = Flown {
                 refusal: None,
                 untrue,

@@ -5,7 +5,7 @@ ghost use Rattle.std.specs.Prelude.{◌≡◌};
 ghost use Rattle.spec_network.specs.Tables.{pick};
 ghost use Rattle.spec_tcp.specs.Bounds.{IsSmallEmission};
 ghost use Rattle.endpoint_state.specs.Kept.{AreReadable};
-ghost use Rattle.spec_cases.specs.Cases.{untrue_from, untrue_sent};
+ghost use Rattle.spec_cases.specs.Cases.{shows_untrue, untrue_from, untrue_sent};
 ghost use Rattle.spec_duties.specs.Kept.{kept_at, kept_of, nothing_kept};
 ghost use Rattle.watched.specs.Targets.{taker_at};
 
@@ -15,7 +15,7 @@ use duties::Target;
 use endpoint::{kept_end, kept_start};
 use endpoint_state::{HostTcp, World};
 use flights::Flights;
-use spec_duties::Kept;
+use spec_duties::{Kept, Observation, Untruth};
 use spec_tcp::{Arrived, Emission, Endpoint, EndpointId};
 
 /// Nothing is kept.
@@ -78,16 +78,10 @@ fn untrue_from(flights: &Flights, host: Host, b: &HostTcp, wire: &Wire, m: &Emis
     }
 }
 
-/// Whether a host sends a selective acknowledgment that isn't true: the segment that it built under this number, which
-/// its line shows like this.
+// Whether a host sends a selective acknowledgment that isn't true: the segment that it built under this number, which
+// its line shows like this.
 #[inline(always)]
-pub(crate) fn untrue_sent(
-    world: &World,
-    flights: &Flights,
-    host: Host,
-    number: u32,
-    wire: &Wire,
-) -> bool
+fn untrue_sent(world: &World, flights: &Flights, host: Host, number: u32, wire: &Wire) -> bool
     ensures { result ≡ untrue_sent flights.now host (pick world.now.world.hosts host) number wire.now }
 {
     match world.made(host, number) {
@@ -96,21 +90,48 @@ pub(crate) fn untrue_sent(
     }
 }
 
-/// The same for a step that takes a line. Versions 1 to 5 don't ask.
-pub fn untrue_at(world: &World, flights: &Flights, line: &TakenLine) -> bool {
+/// What the line of the segment shows that may not be, if this is seen of the step: its blocks, or its timestamps.
+/// Versions 1 to 5 don't ask.
+#[inline(always)]
+pub(crate) fn shows_untrue(
+    world: &World,
+    flights: &Flights,
+    host: Host,
+    number: u32,
+    wire: &Wire,
+    seen: &Observation,
+) -> Option<Untruth>
+    ensures { result ≡ shows_untrue world.now.header flights.now host (pick world.now.world.hosts host) number wire.now
+        seen.now }
+{
+    let header = world.header();
+    if !header.version.says_sender() {
+        return None;
+    }
+    if untrue_sent(world, flights, host, number, wire) {
+        return Some(Untruth::Blocks);
+    }
+    flights.mistimed(header, seen)
+}
+
+/// The same for a step that takes a line.
+pub fn untrue_at(
+    world: &World,
+    flights: &Flights,
+    line: &TakenLine,
+    seen: &Observation,
+) -> Option<Untruth> {
     match line {
         TakenLine::Sent {
             host,
             made,
             wire,
             ..
-        } => {
-            world.header().version.says_sender() && untrue_sent(world, flights, *host, *made, wire)
-        }
+        } => shows_untrue(world, flights, *host, *made, wire, seen),
         TakenLine::CallBegin { .. }
         | TakenLine::CallEnd { .. }
         | TakenLine::Came { .. }
         | TakenLine::Heard { .. }
-        | TakenLine::Expired { .. } => false,
+        | TakenLine::Expired { .. } => None,
     }
 }

@@ -9,7 +9,7 @@ ghost use Rattle.spec_network.specs.Tables.{on, pick};
 ghost use Rattle.spec_tcp.specs.Bounds.{most_steps};
 ghost use Rattle.spec_tcp.specs.Steps.{line_step};
 ghost use Rattle.spec_step.specs.Acts.{step_hidden};
-ghost use Rattle.spec_duties.specs.Arrivals.{stamps_read};
+ghost use Rattle.spec_duties.specs.Arrivals.{acked_sent, stamps_read};
 ghost use Rattle.spec_duties.specs.Dropped.{has_content};
 ghost use Rattle.spec_duties.specs.Observations.{at_drop, at_next, at_place, at_ports, at_sender, at_target};
 ghost use Rattle.spec_duties.specs.Observations.{processing_of};
@@ -19,7 +19,7 @@ ghost use Rattle.spec_duties.specs.declared.observations.BuiltChange.TheVariants
 ghost use Rattle.spec_duties.specs.declared.observations.InboxChange.TheVariants as inbox_change;
 ghost use Rattle.watched.specs.Targets.{taker_at};
 
-use crate::arrivals::{arrival_at, stamps_read};
+use crate::arrivals::{acked_at_ports, acked_sent, arrival_at, stamps_read};
 use crate::blocks::{blocks_taken, no_blocks};
 use crate::calls::observe_effect;
 use crate::credits::{earns_by_dropping, earns_by_taking};
@@ -63,6 +63,7 @@ pub(crate) fn unseen() -> Observation
         kept: nothing_kept(),
         stamps: None,
         arrival: None,
+        acked: 0,
         call_change: CallChange::Nothing,
         socket_change: SocketChange::Nothing,
     }
@@ -278,6 +279,7 @@ pub(crate) fn observe_making(
     Observation {
         touched: at_ports(host, world.body(host), event, plan.lport, plan.rport),
         built_change: BuiltChange::Builds(fresh(world)),
+        acked: acked_at_ports(world.header().version, world.body(host), plan, moment),
         ..unseen()
     }
 }
@@ -315,6 +317,7 @@ pub(crate) fn observe_sending(world: &World, host: Host, number: u32, wire: &Wir
           built_change = built_change.Sends number;
           syn_change = syn_sent world.now.header.version m.emission wire.now.bytes;
           stamps = stamps_read world.now.header.version wire.now.bytes;
+          acked = acked_sent world.now.header.version wire.now m.emission;
         }) }
 {
     match world.made(host, number) {
@@ -323,6 +326,7 @@ pub(crate) fn observe_sending(world: &World, host: Host, number: u32, wire: &Wir
             built_change: BuiltChange::Sends(number),
             syn_change: syn_sent(world.header().version, made.emission(), &wire.bytes),
             stamps: stamps_read(world.header().version, wire.bytes.as_slice()),
+            acked: acked_sent(world.header().version, wire, made.emission()),
             ..unseen()
         },
         None => unseen(),

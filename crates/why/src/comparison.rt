@@ -2,7 +2,8 @@
 
 use crate::scene::{Building, Expiring, Object, Processing, Scene};
 use crate::{
-    arrivals, builds, calls, inbox, late, limits, numbers, order, reported, resets, timers, wire,
+    arrivals, builds, calls, inbox, late, limits, numbers, order, reported, resets, timers,
+    timestamps, wire,
 };
 use case_forms::{Answer, OutOfMemory, Recovery, TakeChoice, Wire};
 use endpoint_state::Endpoint;
@@ -64,6 +65,8 @@ pub(crate) fn compare(out: &mut String, scene: &Scene, rule: Rule) -> Result<(),
         | Rule::Recovery
         | Rule::Discarded
         | Rule::SackUntrue
+        | Rule::Echo
+        | Rule::ClockFalls
         | Rule::Resent
         | Rule::ResentBeyond => compare_at(out, scene, rule),
         // What the step is about says it all.
@@ -142,6 +145,8 @@ fn of_sent(
         Rule::NotMade => wire::sent_before(out, scene, number),
         Rule::SendLate => late::built(out, scene, number),
         Rule::SackUntrue => reported::untrue(out, scene, made, wire),
+        Rule::Echo => timestamps::echo(out, scene, made, number, wire),
+        Rule::ClockFalls => timestamps::clock(out, scene, made, number, wire),
         _ => Ok(()),
     }
 }

@@ -15,7 +15,7 @@
 //! - `order`, `calls`, `builds`, `wire`, `arrivals`, `numbers`, `timers`: what the rules compare; `late`, `limits`:
 //!   the same for duties
 //! - `losses`: what is known of losses if both SYNs permitted SACK; `probes`: the same for probes; `undoing`: which
-//!   recovery is undone; `reported`: which SACK blocks aren't true
+//!   recovery is undone; `reported`: which SACK blocks aren't true; `timestamps`: which timestamps a segment may have
 //! - `allowed`: the answers that a call may have
 //! - `known`: what is known at the step of the causes of its rule
 //! - `other_windows`, `segment_window`, `loss_windows`, `changes`: the other windows that a segment would fit, kept
@@ -53,6 +53,7 @@ mod segment_window;
 mod sendable;
 mod states;
 mod timers;
+mod timestamps;
 mod undoing;
 mod unjudged;
 mod wire;

@@ -2,6 +2,7 @@
 
 use crate::late::describe_touched;
 use crate::scene::{Building, Object, Scene};
+use crate::timestamps::not_outdated;
 use case_forms::{Label, OutOfMemory, TakeChoice};
 use duties::earliest_credit;
 use endpoint_state::Endpoint;
@@ -27,7 +28,11 @@ pub(crate) fn dropped(out: &mut String, scene: &Scene) -> Result<(), OutOfMemory
         "processing it would break no rule, so it may not be dropped\n"
     } else {
         "answering it with a reset would break no rule, so it may not be dropped\n"
-    })
+    })?;
+    match scene.world.waiting(*host, *line) {
+        Some(m) => not_outdated(out, scene, m),
+        None => Ok(()),
+    }
 }
 
 /// What is next in order, and where the receive window ends.

@@ -45,6 +45,11 @@ pub(crate) struct Known<'t> {
     has_probes: bool,
 }
 
+// Whether a line that breaks a rule shows that its segment was built before or after something else was processed.
+fn shows_order(rule: Rule) -> bool {
+    matches!(rule, Rule::BytesDiffer | Rule::Echo | Rule::ClockFalls)
+}
+
 // A line that is examined, the first time or the second.
 #[derive(Clone, Copy)]
 struct Spot {
@@ -149,7 +154,22 @@ impl<'t> Known<'t> {
         for fate in fates.into_iter().flatten() {
             out.push(place, Change::Fate(fate))?;
         }
+        if let Some(at) = self.probe_off_at() {
+            out.push(place, Change::Before(at, Remedy::Recovery))?;
+        }
         self.wait_until(out, spot)
+    }
+
+    // The endpoint whose probe the failing line makes due, though another one keeps it from being sent. Fast recovery
+    // ends that one.
+    fn probe_off_at(&self) -> Option<EndpointKey> {
+        let line = self.lines.get(self.failure.place)?;
+        match line.event {
+            Event::Expired(_, _, _, Timer::Pto) if self.failure.rule == Rule::TimerOff => {
+                EndpointKey::of_line(line)
+            }
+            _ => None,
+        }
     }
 
     // What else may become of an arrival, less likely than what is near.
@@ -227,7 +247,7 @@ impl<'t> Known<'t> {
         if is_far == (place == self.failure.place) {
             return Ok(());
         }
-        if self.failure.rule != Rule::BytesDiffer {
+        if !shows_order(self.failure.rule) {
             out.push(place, Change::Before(at, Remedy::Recovery))?;
             out.push(place, Change::Before(at, Remedy::Persist))?;
             if self.has_probes {

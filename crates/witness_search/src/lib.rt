@@ -26,6 +26,7 @@
 //!   - `sent_segments`: a segment is built when its line shows that it was sent
 //!   - `unseen`: segments that were built, and that no line shows
 //!   - `arrivals`: an arrival is processed at once or late, answered by a reset or dropped
+//!   - `echoes`: what the timestamp that a segment echoes shows of an arrival
 //!   - `effects`: a call has its effect as soon as the model permits the answer that its end shows
 //!   - `expiries`: expiries that the trace shows, and lines that are added for others
 //! - `ways`: how a host does, throughout a run, what the RFCs leave open

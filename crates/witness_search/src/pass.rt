@@ -1,6 +1,7 @@
 //! What a pass knows, and the order in which it does things.
 
 mod arrivals;
+mod echoes;
 mod effects;
 mod expiries;
 mod sent_segments;
@@ -17,6 +18,7 @@ use crate::later_lines::{LaterLines, Outgoing};
 use crate::progress::{Overdue, Progress};
 use crate::search_options::ShownExpiries;
 use crate::stop::Stop;
+use crate::together::length_of;
 use crate::ways::Ways;
 use case_forms::{Event, Header, Line, OutOfMemory, Timer};
 use std::alloc::{AllocError, Global};
@@ -147,11 +149,20 @@ impl<'t> Pass<'t> {
         let timer = match remedy {
             Remedy::Rto => Timer::Rto,
             Remedy::Persist => Timer::Persist,
+            Remedy::Pto if !self.builds_next(at) => return Ok(false),
             Remedy::Pto => Timer::Pto,
             Remedy::TimeWaitOver => Timer::Msl2,
             Remedy::Recovery => return self.progress.try_recovery(at),
         };
         self.try_expiry(at, timer)
+    }
+
+    // Whether the current line shows that an endpoint sends bytes or a FIN, which aren't built yet.
+    fn builds_next(&self, at: EndpointKey) -> bool {
+        match self.outgoing.next(at) {
+            Some(shown) => { shown.place == self.progress.log.place() && 0 < length_of(shown.wire) }
+            None => false,
+        }
     }
 
     // Builds the segments that were chosen to be built after the line at a place.

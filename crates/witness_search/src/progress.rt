@@ -13,6 +13,7 @@ use crate::watch::Beside;
 use case_forms::Host;
 use endpoint_state::{Endpoint, World};
 pub(crate) use owed::Overdue;
+use spec_flights::Clocks;
 use spec_tcp::{Arrived, Emission};
 
 /// Whether something else may be done instead of a step.
@@ -70,6 +71,15 @@ impl Progress {
     pub(crate) fn waiting(&self, host: Host, line: u64) -> Option<(EndpointKey, &Emission)> {
         let m = self.world.waiting(host, line)?;
         Some((EndpointKey::receiver(host, m), m))
+    }
+
+    /// What is known of timestamps at an endpoint. None: it doesn't exist, or the version is 1 to 5.
+    pub(crate) fn clocks(&self, key: EndpointKey) -> Option<Clocks> {
+        if !self.world.header().version.says_sender() {
+            return None;
+        }
+        let place = self.world.body(key.host()).place_of(key.lport, key.rport)?;
+        Some(self.beside.clocks(key.host(), place))
     }
 
     /// An endpoint, and a segment as the endpoint reads it. None: it doesn't exist, or is CLOSED or beyond all

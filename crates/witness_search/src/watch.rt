@@ -6,10 +6,11 @@ ghost use Rattle.spec_tcp.specs.Bounds.{most_steps};
 ghost use Rattle.spec_step.specs.Acts.{IsSmall};
 
 use case_forms::{Host, TakenLine};
-use duties::{Duties, view_of};
+use duties::{Duties, rule_of, view_of};
 use endpoint_state::{StepFault, World};
 use flights::{Flights, ProbeStanding};
-use spec_duties::{Observation, View};
+use spec_duties::{Observation, Untruth, View};
+use spec_flights::Clocks;
 use spec_step::{Hidden, ModelStep};
 use std::alloc::Global;
 use verdict::Rule;
@@ -29,6 +30,11 @@ impl Beside {
             flights: Flights::start(alloc),
             duties: Duties::start(alloc),
         }
+    }
+
+    /// What is known of timestamps at the endpoint of a host at a place.
+    pub(crate) fn clocks(&self, host: Host, place: u32) -> Clocks {
+        self.flights.clocks_at(host, place)
     }
 
     /// Whether the endpoint of a host at a place recovers from a loss, and this may be undone. Both SYNs permitted
@@ -52,12 +58,12 @@ struct Sight<'s> {
     seen: &'s Observation,
     /// The same as duties see it: what is dropped may be excused.
     shown: &'s Observation,
-    /// Whether the step sends a selective acknowledgment that isn't true.
-    untrue: bool,
+    /// What the line of a segment shows that may not be.
+    untrue: Option<Untruth>,
 }
 
 // What is seen of a step that drops no segment.
-fn plain(seen: &Observation, untrue: bool) -> Sight<'_> {
+fn plain(seen: &Observation, untrue: Option<Untruth>) -> Sight<'_> {
     Sight {
         seen,
         shown: seen,
@@ -81,7 +87,10 @@ impl Watch {
     fn broken(self, world: &World, duties: &Duties, sight: Sight<'_>) -> Option<Rule> {
         let untrue = sight.untrue;
         let Some(slack) = self.slack else {
-            return if untrue { Some(Rule::SackUntrue) } else { None };
+            return match untrue {
+                Some(untrue) => Some(rule_of(untrue)),
+                None => None,
+            };
         };
         duties
             .admits(world.header(), slack, self.moment, untrue, sight.shown)
@@ -167,7 +176,7 @@ impl Watch {
         requires { world.old.steps < most_steps }
     {
         let seen = observe_line(world, self.moment, &line);
-        let untrue = untrue_at(world, &beside.flights, &line);
+        let untrue = untrue_at(world, &beside.flights, &line, &seen);
         self.step(world, beside, line, plain(&seen, untrue))
     }
 
@@ -183,12 +192,12 @@ impl Watch {
     {
         let seen = observe_hidden(world, self.moment, &step);
         if seen.dropping.is_none() {
-            return self.step(world, beside, step, plain(&seen, false));
+            return self.step(world, beside, step, plain(&seen, None));
         }
         let shown = beside.flights.excused(world.header(), &seen);
         let sight = Sight {
             shown: &shown,
-            ..plain(&seen, false)
+            ..plain(&seen, None)
         };
         self.step(world, beside, step, sight)
     }

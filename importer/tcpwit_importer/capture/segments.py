@@ -10,11 +10,11 @@ WRAP = 1 << 32
 # The bytes of a header without options, and of one up to its flags.
 SHORTEST, FLAGS_END = 20, 14
 # Kinds of options: the end of all, padding, the maximum segment size, the window shift, that SACK is permitted, its
-# blocks, multipath TCP, and Fast Open.
+# blocks, timestamps, multipath TCP, and Fast Open.
 END, PADDING, SIZE, SHIFT, PERMITTED, SACK = range(6)
-MULTIPATH, FAST_OPEN = 30, 34
+TIMESTAMPS, MULTIPATH, FAST_OPEN = 8, 30, 34
 # How the usual options after a handshake begin: padding and timestamps, which have 12 bytes together.
-STAMPS = bytes([PADDING, PADDING, 8, 10])
+STAMPS = bytes([PADDING, PADDING, TIMESTAMPS, 10])
 
 _PORTS = struct.Struct("!HH").unpack_from
 

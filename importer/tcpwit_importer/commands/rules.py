@@ -38,6 +38,8 @@ SECTIONS = {
     "resent-beyond": "5681, 3.1",
     "ack-excess": "5681, 4.2",
     "sack-untrue": "2018, 2 to 4",
+    "echo": "7323, 3.2, 4.3",
+    "clock-falls": "7323, 5.2",
     "sample-due": "6298, 3",
     "answer-late": "9293, 3.9.1",
 }

@@ -1,10 +1,11 @@
 """When a host received what passed a capture between the hosts: at some moment after that, or never.
 
 What a host sends shows what it hadn't received by then: it acknowledges less, sends again what an arrival acknowledges,
-or has bytes beyond the window of an arrival. It also shows what it had received: it acknowledges that, reports it by a
-SACK block, or has bytes beyond the window that it knew. An arrival comes when it passed, unless what is sent later
-shows that it came later: then it comes as soon as it can. So what was lost behind the capture comes only after what
-shows that.
+echoes an older timestamp, or has bytes beyond the window of an arrival. It also shows what it had received: it
+acknowledges that, reports it by a SACK block, or has bytes beyond the window that it knew. An arrival comes when it
+passed, unless what is sent later shows that it came later: then it comes as soon as it can. So what was lost behind the
+capture comes only after what shows that. If a host echoes a timestamp that only a copy of a segment can have shown it,
+the copy comes, too: the network duplicated the segment behind the capture.
 """
 import heapq
 from bisect import bisect_left
@@ -19,44 +20,51 @@ from .passages import moved
 FAR = 1 << 62
 # How many arrivals before a reset are compared with it.
 NEAR = 100
+COPIES = "copies of segments that the network doubled after the capture, added"
 # How often an arrival that closes the window too early waits again.
 MOST_AGAIN = 100
 
 
 class Limits:
     """What the segments of a host show, for each place of what it sent: the least that they acknowledge from there on,
-    the first position that they have, and the next of them with bytes beyond all earlier ones, if any. `plain` is the
-    place after the last one that isn't a reset."""
+    the first position that they have, the oldest timestamp that they echo, and the next of them with bytes beyond all
+    earlier ones, if any. `plain` is the place after the last one that isn't a reset."""
 
     def __init__(self, sent):
         passages = [each.passage for each in sent]
-        self.least, self.first, self.extending, self.plain = [FAR], [FAR], [None], 0
+        self.least, self.first, self.oldest, self.extending, self.plain = [FAR], [FAR], [FAR], [None], 0
         for place in reversed(range(len(sent))):
-            least, first = FAR, FAR
+            least, first, oldest = FAR, FAR, FAR
             if not passages[place].is_reset:
                 self.plain = max(self.plain, place + 1)
                 least = FAR if passages[place].acknowledged is None else passages[place].acknowledged
                 # An empty segment may be one position below what is acknowledged, as a keep-alive is.
                 first = passages[place].start + (not passages[place].length)
+                oldest = FAR if passages[place].echo is None else passages[place].echo
             self.least.append(min(least, self.least[-1]))
             self.first.append(min(first, self.first[-1]))
+            self.oldest.append(min(oldest, self.oldest[-1]))
         for place in reversed(extending(passages)):
             self.extending.append(self.extending[-1] if place is None else place)
-        for row in (self.least, self.first, self.extending):
+        for row in (self.least, self.first, self.oldest, self.extending):
             row.reverse()
 
-    def due(self, arrival):
-        """The first place of a segment before which an arrival may have come."""
+    def due(self, arrival, acknowledged):
+        """The first place of a segment before which an arrival may have come. The host acknowledged all below a
+        position before; what begins there or below has the timestamp that is echoed (RFC 7323, 4.3)."""
         if arrival.is_reset:
             return self.plain
         stops = bisect_left(self.least, arrival.stop) if arrival.length else 0
-        return max(stops, bisect_left(self.first, arrival.acknowledged or 0))
+        is_echoed = arrival.stamp is not None and arrival.start <= acknowledged
+        echoes = bisect_left(self.oldest, arrival.stamp) if is_echoed else 0
+        return max(stops, echoes, bisect_left(self.first, arrival.acknowledged or 0))
 
 
 class Arrivals:
     """Gives the arrivals at a host their moments. `sent` has what the host sent, in order."""
 
-    def __init__(self, sent, others):
+    def __init__(self, sent, others, notes):
+        self.notes = notes
         self.sent, self.others, self.places = sent, others, [each.place for each in others]
         self.limits, self.answered = Limits(sent), answered(sent, others)
         # What waits, and how often it did so again. `edges` has all windows' ends.
@@ -64,6 +72,8 @@ class Arrivals:
         self.edges = Greatest([each.edge or 0 for each in others])
         # What came: up to which position without a gap, and what beyond; what was acknowledged, and the window's end.
         self.reached, self.beyond, self.acknowledged, self.edge = 0, [], 0, 0
+        # What the host acknowledged, the newest timestamp that it echoes, and the last arrival that passed with each.
+        self.told, self.recent, self.stamped = 0, 0, {}
         self.came, self.found = Came(), []
 
     def packets(self):
@@ -75,6 +85,7 @@ class Arrivals:
                 passed += 1
             self.release(place)
             self.found.append(each.packet)
+            self.told = max(self.told, each.passage.acknowledged or 0)
         self.come(sorted(self.held.held) + list(range(passed, len(self.others))))
         return self.found
 
@@ -82,7 +93,9 @@ class Arrivals:
         """An arrival passes. What a reset answers is due just before that."""
         arrival = self.others[at]
         due = self.answered.get(arrival.place)
-        self.held.hold(at, self.limits.due(arrival) if due is None else due)
+        self.held.hold(at, self.limits.due(arrival, self.told) if due is None else due)
+        if arrival.stamp is not None:
+            self.stamped[arrival.stamp] = at
 
     def release(self, place):
         """Before the segment at a place is sent, what is due comes, and what the segment needs."""
@@ -93,6 +106,19 @@ class Arrivals:
         while not passage.is_reset and (at := self.needed(passage)) is not None:
             self.held.take(at)
             self.come([at])
+        if passage.echo is not None and passage.echo > self.recent:
+            self.echo(passage.echo)
+
+    def echo(self, stamp):
+        """A timestamp is echoed that isn't that of what came: its segment comes, or a copy of it."""
+        at = self.stamped.get(stamp)
+        if at is None or self.others[at].start > self.told:
+            return
+        if at in self.held.held:
+            self.held.take(at)
+        else:
+            self.notes.change(COPIES, self.others[at].packet.place)
+        self.come([at])
 
     def needed(self, passage):
         """The first arrival that a segment needs, as it acknowledges what didn't come or has bytes beyond the window;
@@ -122,6 +148,8 @@ class Arrivals:
 
     def add(self, arrival):
         """An arrival that isn't a reset came."""
+        if arrival.stamp is not None and arrival.start <= self.told:
+            self.recent = max(self.recent, arrival.stamp)
         if arrival.edge is not None and arrival.acknowledged >= self.acknowledged:
             self.acknowledged, self.edge = arrival.acknowledged, arrival.edge
         if arrival.length:

@@ -2,11 +2,9 @@
 from bisect import bisect
 from copy import copy
 
-from ..capture.segments import ACK, FIN, RST, SYN, WRAP, header_length, listed, options
-from .passages import moved
+from ..capture.segments import ACK, FIN, RST, SYN, WRAP, header_length
+from .passages import moved, stamps_of
 
-# The kind of the timestamps option (RFC 7323, 3.2).
-TIMESTAMPS = 8
 # Fast retransmit needs so many duplicate acknowledgments, and a timeout so many nanoseconds (RFC 5681, 3.2; RFC 6298).
 DUPLICATES, TIMEOUT = 3, 2 * 10**8
 # The numbers of a host's IP packets are below this. They show an order if the next one is at most so much greater, for
@@ -198,5 +196,5 @@ def counts(numbers):
 
 def timestamp(segment):
     """The value of the timestamps option; None without one."""
-    found = [value for kind, value in listed(options(segment)) if kind == TIMESTAMPS and len(value) == 8]
-    return int.from_bytes(found[-1][:4], "big") if found else None
+    stamps = stamps_of(segment)
+    return stamps and stamps[0]

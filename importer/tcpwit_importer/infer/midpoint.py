@@ -26,7 +26,8 @@ def split(connection, name, longest, notes):
     for end, host in connection.hosts.items():
         if found:
             sent = Departures(connection, end, found, longest).in_order(notes)
-            sides[names[host]] = Arrivals(sent, [each for each in found if each.packet.source != end]).packets()
+            others = [each for each in found if each.packet.source != end]
+            sides[names[host]] = Arrivals(sent, others, notes).packets()
             spread = max(spread, spread_of(found, end))
         else:
             sides[names[host]] = [moved(packet, packet.moment + (packet.source != end)) for packet in packets]

@@ -12,9 +12,9 @@ ghost use Rattle.spec_duties.specs.Watching.{answer_rules};
 
 use crate::answering::{answer_due, not_ready, ready_since, renewed, unanswered_since};
 use crate::deadlines::is_late;
-use crate::steps::Duties;
+use crate::steps::{Duties, rule_of};
 use case_forms::{Host, OutOfMemory};
-use spec_duties::{CallChange, OpenCall, Waitable, Waiting};
+use spec_duties::{CallChange, OpenCall, Untruth, Waitable, Waiting};
 use spec_tcp::SocketTarget;
 use verdict::Rule;
 
@@ -88,13 +88,13 @@ impl Duties {
         &self,
         slack: u64,
         moment: u64,
-        untrue: bool,
+        untrue: Option<Untruth>,
         change: CallChange,
     ) -> Result<(), Rule>
         ensures { result_err result ≡ first_broken (answer_rules slack moment self.now untrue change) }
     {
-        if untrue {
-            return Err(Rule::SackUntrue);
+        if let Some(untruth) = untrue {
+            return Err(rule_of(untruth));
         }
         if is_late(slack, moment, answer_due(self.answer_since(change))) {
             return Err(Rule::AnswerLate);

@@ -58,8 +58,9 @@ pub(crate) fn acknowledgment(endpoint: &Endpoint, making: &SegmentPlan) -> (u64,
     (rcv_nxt, seq_of(endpoint.irs, rcv_nxt))
 }
 
-// How far the text that was taken at this moment, in microseconds, raised the position that it acknowledges.
-pub(crate) fn raised_at(endpoint: &Endpoint, making: &SegmentPlan, moment: u64) -> u64
+/// How far the text that was taken at this moment, in microseconds, raised the position that a segment acknowledges
+/// which is built then: 0 if it didn't, or the segment has no ACK (RFC 9293, 3.10.7.4).
+pub fn raised_at(endpoint: &Endpoint, making: &SegmentPlan, moment: u64) -> u64
     ensures { result ≡ raised_at endpoint.now making.now moment }
 {
     let text = endpoint.text;

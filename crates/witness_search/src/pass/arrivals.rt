@@ -1,6 +1,7 @@
 //! An arrival is processed, answered by a reset if one follows, or dropped: at once, or late, after segments that were
 //! built before.
 
+use super::echoes::Built;
 use super::sent_segments::position_of;
 use super::{Pass, Sought};
 use crate::calls::listener_at;
@@ -27,6 +28,13 @@ const DELAY: u64 = 500_000;
 
 // How many duties may change how an arrival is processed.
 const DUE: usize = 2;
+
+// Nothing is chosen: an arrival may be processed like this if it may be processed at all.
+const BARE: TakeChoice = TakeChoice {
+    cwnd: 0,
+    keep: false,
+    sample: false,
+};
 
 // When an arrival is processed.
 #[derive(Clone, Copy)]
@@ -148,6 +156,12 @@ impl Progress {
             }
             done => Ok(permitted(done)?.is_some()),
         }
+    }
+
+    // Whether an arrival may be processed now.
+    fn may_process(&self, host: Host, line: u64) -> bool {
+        let moment = self.moment();
+        self.world().admits_taking(host, moment, line, BARE).is_ok()
     }
 
     // How an arrival is processed: with the greatest choice that is permitted in the ways of its host.
@@ -455,14 +469,9 @@ impl<'t> Pass<'t> {
 
     // An arrival may not be dropped: it is processed with nothing chosen, or answered by a reset that no line shows.
     fn resolve_at_last(&mut self, host: Host, line: u64) -> Result<(), Stop> {
-        let bare = TakeChoice {
-            cwnd: 0,
-            keep: false,
-            sample: false,
-        };
         let key = self.progress.waiting(host, line).map(|(key, _)| key);
         if let Some(key) = key
-            && self.progress.try_taking(host, line, bare)?
+            && self.progress.try_taking(host, line, BARE)?
         {
             return self.wake_receiver(key);
         }
@@ -486,6 +495,7 @@ impl<'t> Pass<'t> {
         };
         if self.progress.take_as_due(host, line, choice)? {
             self.progress.acknowledge(key, ack);
+            self.make_between(key)?;
             self.wake_receiver(key)?;
         }
         Ok(true)
@@ -545,7 +555,18 @@ impl<'t> Pass<'t> {
         let is_open = self.progress.slack().is_none()
             || 0 < endpoint.receive_window()
             || endpoint.irs.is_none();
-        Some((shown, built_before(endpoint, &read, shown.wire, is_open)?))
+        let before = built_before(endpoint, &read, shown.wire, is_open);
+        let is_next = acknowledges_next(endpoint, shown.wire);
+        let echo = self.progress.echo_shows(key, m, read.pos(), shown.wire);
+        match (before, echo) {
+            // It was built while the arrival's bytes waited.
+            (Some(true), Some(Built::After)) => None,
+            // What is dropped need not be echoed.
+            (None, Some(Built::Before)) if is_next && self.progress.may_process(host, line) => {
+                Some((shown, false))
+            }
+            _ => Some((shown, before?)),
+        }
     }
 
     // Whether a segment that is built now is sent in time.
@@ -557,8 +578,8 @@ impl<'t> Pass<'t> {
         wait <= slack || self.sought.forgives
     }
 
-    // Builds a segment before its line. The result is whether that's permitted.
-    fn try_making(&mut self, shown: Shown<'t>) -> Result<bool, Stop> {
+    /// Builds a segment before its line. The result is whether that's permitted.
+    pub(crate) fn try_making(&mut self, shown: Shown<'t>) -> Result<bool, Stop> {
         if !self.is_in_time(shown) {
             return Ok(false);
         }

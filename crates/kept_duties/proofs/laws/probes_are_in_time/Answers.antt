@@ -4,5 +4,5 @@ use Rattle.kept_duties.proofs.Probing.{probes_in_time}
 use Rattle.kept_duties.proofs.laws.probes_are_in_time.Goals as goal
 
 pub returns : goal.returns
-returns c = λ t w slack e given plain.
-    probes_in_time t w slack (run_of t w slack given e.run e.duties) plain e.placed (end_fine t w slack given e.in_time)
+returns c = λ t w slack e given.
+    probes_in_time t w slack (run_of t w slack given e.run e.duties) e.placed (end_fine t w slack given e.in_time)

@@ -1,4 +1,4 @@
-use Rattle.std.proofs.Common.{◌∙◌, ap, sym}
+use Rattle.std.proofs.Common.{◌∙◌, ap}
 use Rattle.case_forms.specs.declared.trace.Header.{Header}
 use Rattle.spec_duties.specs.declared.observations.Observation.{Observation}
 use Rattle.spec_flights.specs.Flights.{excused}

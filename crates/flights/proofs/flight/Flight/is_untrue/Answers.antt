@@ -4,7 +4,7 @@ use Rattle.std.specs.Ordering.{nat_cmp}
 use Rattle.segment.specs.Reading.{sack_blocks}
 use Rattle.spec_flights.specs.Flights.{Flight}
 use Rattle.spec_flights.specs.Held.{is_untrue}
-use Rattle.flights.proofs.SetLemmas.{read_back}
+use Rattle.flight_parts.proofs.SetLemmas.{read_back}
 use Rattle.flights.proofs.flight.Flight.is_untrue.Goals as goal
 
 pub returns : goal.returns

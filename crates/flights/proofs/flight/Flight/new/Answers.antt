@@ -1,5 +1,5 @@
 use Rattle.std.proofs.Common.{refl}
-use Rattle.flights.proofs.SetLemmas.{none_in}
+use Rattle.flight_parts.proofs.SetLemmas.{none_in}
 use Rattle.flights.proofs.flight.Flight.new.Goals as goal
 
 pub returns : goal.returns
@@ -13,6 +13,7 @@ returns c =
       c.needed.ensures,
       c.no_clocks.ensures,
       c.new-3.ensures,
+      c.new-4.ensures,
       none_in,
     )
     refl

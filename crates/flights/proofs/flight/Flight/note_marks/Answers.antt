@@ -6,7 +6,7 @@ use Rattle.spec_flights.specs.Delivered.{without_reports}
 use Rattle.spec_flights.specs.Flights.{Flight}
 use Rattle.spec_flights.specs.Marks.{marks_after, taken_by}
 use Rattle.spec_flights.specs.declared.stretch.Stretch.{Stretch}
-use Rattle.flights.proofs.SetLemmas.{read_back}
+use Rattle.flight_parts.proofs.SetLemmas.{read_back}
 use Rattle.flights.proofs.flight.Flight.note_marks.Goals as goal
 
 pub returns : goal.returns
@@ -37,6 +37,7 @@ returns c =
       probing = c.self.inside.probing;
       undoing = c.self.inside.undoing;
       clocks = c.self.inside.clocks;
+      echoes = c.self.inside.echoes.entries;
       held = items c.self.inside.held;
     }
 

@@ -1,0 +1,13 @@
+pub mod Sockets
+pub mod Naming
+pub mod Renewing
+pub mod Acts
+pub mod Tracked
+pub mod Threads
+pub mod Answering
+pub mod Calls
+pub mod Purses
+pub mod Earns
+pub mod Pending
+pub mod Earned
+pub mod Measured

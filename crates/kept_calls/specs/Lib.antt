@@ -1,0 +1,3 @@
+pub mod Awaiting
+pub mod Earning
+pub mod Measuring

@@ -1,0 +1,11 @@
+pub mod Placing
+pub mod Voided
+pub mod Heard
+pub mod ReadBlocks
+pub mod Latest
+pub mod Recovers
+pub mod Probes
+pub mod Told
+pub mod Repeating
+pub mod Once
+pub mod Facts

@@ -1,0 +1,3 @@
+pub mod Voiding
+pub mod Deliveries
+pub mod Rescues

@@ -1,0 +1,3 @@
+pub mod WalkLemmas
+pub mod DeliveredLemmas
+pub mod Facts
