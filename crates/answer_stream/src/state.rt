@@ -1,7 +1,7 @@
 //! Whether a further case can be read.
 
 /// Whether a further case can be read.
-#[derive(Clone, Copy, Debug, PartialEq, Eq)]
+#[derive(Clone, Copy, PartialEq, Eq)]
 pub(crate) enum State {
     /// One can, if there is one.
     Open,

@@ -8,7 +8,7 @@ use crate::OutOfMemory;
 use segment::Bytes;
 
 /// One of the two hosts of a case.
-#[derive(Clone, Copy, Debug, PartialEq, Eq)]
+#[derive(Clone, Copy, PartialEq, Eq)]
 pub enum Host {
     /// Host 0.
     Zero,
@@ -29,7 +29,7 @@ impl Host {
 }
 
 /// The ports of an endpoint, 1 to 65535.
-#[derive(Clone, Copy, Debug, PartialEq, Eq)]
+#[derive(Clone, Copy, PartialEq, Eq)]
 pub struct Ports {
     /// The local port.
     pub lport: u16,
@@ -38,7 +38,7 @@ pub struct Ports {
 }
 
 /// The state of an endpoint (RFC 9293, 3.3.2). `Listen` is the answer for a listener.
-#[derive(Clone, Copy, Debug, PartialEq, Eq)]
+#[derive(Clone, Copy, PartialEq, Eq)]
 pub enum State {
     Closed,
     Listen,
@@ -92,7 +92,7 @@ impl State {
 
 /// A socket call (RFC 9293, 3.9.1). Ports are 1 to 65535. A socket number may be any number, whether or not a call
 /// returned it.
-#[derive(Debug, Drop)]
+#[derive(Drop)]
 pub enum Call {
     /// `listen h port backlog`: open a listener on a port of host h, with a queue for `backlog` children.
     Listen(Host, u16, u16),

@@ -4,7 +4,7 @@ ghost use Rattle.std.specs.Prelude.{◌≡◌};
 ghost use Rattle.case_forms.specs.Versions.{first_line_of, is_half, says_sender, says_slack, scales};
 
 /// The version of a text. A trace and its witness have the same version.
-#[derive(Clone, Copy, Debug, PartialEq, Eq)]
+#[derive(Clone, Copy, PartialEq, Eq)]
 pub enum Version {
     /// Windows count bytes as written, without scaling.
     One,

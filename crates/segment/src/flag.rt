@@ -4,7 +4,7 @@ ghost use Rattle.std.specs.Prelude.{◌≡◌, ◌<◌};
 ghost use Rattle.segment.specs.Flags.{mask_of};
 
 /// A flag of a segment. `Cwr`, `Ece`, `Urg` and `Psh` have no effect here.
-#[derive(Clone, Copy, Debug, PartialEq, Eq)]
+#[derive(Clone, Copy, PartialEq, Eq)]
 pub enum Flag {
     /// Congestion window reduced.
     Cwr,

@@ -5,7 +5,7 @@ ghost use Rattle.seqno.specs.Near.{near_position};
 ghost use Rattle.seqno.specs.Numbers.{number_of, Reads};
 
 /// A sequence or acknowledgment number, as a segment carries it: modulo 2^32.
-#[derive(Clone, Copy, Debug, PartialEq, Eq)]
+#[derive(Clone, Copy, PartialEq, Eq)]
 pub struct Word(pub u32);
 
 /// How many numbers there are.

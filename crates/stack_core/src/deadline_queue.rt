@@ -13,14 +13,14 @@ use std::alloc::Global;
 use std::collections::BTreeSet;
 
 /// The endpoint at a place is to be visited from a moment on. The earliest come first.
-#[derive(Clone, Copy, Debug, PartialEq, Eq, PartialOrd, Ord, Drop)]
+#[derive(Clone, Copy, PartialEq, Eq, PartialOrd, Ord, Drop)]
 pub(crate) struct Deadline {
     pub(crate) moment: u64,
     pub(crate) place: u32,
 }
 
 /// Which endpoints of a host a step may change, besides one that it creates.
-#[derive(Clone, Copy, Debug, PartialEq, Eq)]
+#[derive(Clone, Copy, PartialEq, Eq)]
 pub(crate) enum Affected {
     Nobody,
     Place(u32),

@@ -10,7 +10,7 @@ use std::alloc::AllocError;
 use std::fmt;
 
 /// Whether the steps of a witness explain a trace.
-#[derive(Clone, Copy, Debug, PartialEq, Eq)]
+#[derive(Clone, Copy, PartialEq, Eq)]
 pub enum Verdict {
     /// The steps explain the trace.
     Yes {

@@ -16,7 +16,7 @@ use std::mem::replace;
 use trace_reader::read_trace;
 
 /// How a search ended.
-#[derive(Clone, Copy, Debug, PartialEq, Eq)]
+#[derive(Clone, Copy, PartialEq, Eq)]
 pub enum Ending {
     /// All lines are explained.
     Whole,

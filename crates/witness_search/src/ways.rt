@@ -30,7 +30,7 @@ pub struct WayWords {
 }
 
 /// The ways of a host.
-#[derive(Clone, Copy, Debug, PartialEq, Eq)]
+#[derive(Clone, Copy, PartialEq, Eq)]
 pub(crate) struct HostWays {
     growth: Growth,
     samples: Samples,
@@ -122,7 +122,7 @@ fn concerns_timers(rule: Rule) -> bool {
 }
 
 /// The ways of both hosts.
-#[derive(Clone, Copy, Debug, PartialEq, Eq)]
+#[derive(Clone, Copy, PartialEq, Eq)]
 pub struct Ways {
     zero: HostWays,
     one: HostWays,

@@ -4,7 +4,7 @@ use super::WayWords;
 use window_rules::Congestion;
 
 /// How it grows.
-#[derive(Clone, Copy, Debug, PartialEq, Eq)]
+#[derive(Clone, Copy, PartialEq, Eq)]
 pub(crate) enum Growth {
     /// At each acknowledgment, by a part of a segment: the usual way.
     EachAck,

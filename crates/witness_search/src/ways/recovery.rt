@@ -8,7 +8,7 @@ use std::collections::BTreeMap;
 use window_rules::Congestion;
 
 /// When fast recovery ends.
-#[derive(Clone, Copy, Debug, PartialEq, Eq)]
+#[derive(Clone, Copy, PartialEq, Eq)]
 pub(crate) enum Leaving {
     /// At the first new acknowledgment (RFC 5681, 3.2, step 6): the usual way.
     FirstAck,
