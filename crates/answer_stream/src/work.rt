@@ -19,7 +19,7 @@ use std::thread;
 use std::thread::Threads;
 
 /// How a run on the cases of an input ended.
-#[derive(Clone, Copy, PartialEq, Eq)]
+#[derive(Clone, Copy)]
 pub(crate) enum Outcome {
     /// All cases were answered, with this greatest status, or 0 if there are none.
     All(u8),

@@ -31,7 +31,7 @@ pub struct RtoChoice {
 }
 
 /// What becomes of a recovery.
-#[derive(Clone, Copy, PartialEq, Eq)]
+#[derive(Clone, Copy)]
 pub enum RecoveryChange {
     /// Fast recovery begins (RFC 5681, 3.2).
     Begins,

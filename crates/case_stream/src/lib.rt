@@ -54,7 +54,7 @@ fn has_end(raw: &[u8]) -> bool
 }
 
 /// What was read of the next case.
-#[derive(Clone, Copy, PartialEq, Eq)]
+#[derive(Clone, Copy)]
 pub enum Next {
     /// A case that its line `end` ends.
     Case,

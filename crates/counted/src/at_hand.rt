@@ -13,7 +13,7 @@ use memchr::memchr;
 use std::io::BufRead;
 
 /// Which lines at hand are taken.
-#[derive(Clone, Copy, PartialEq, Eq)]
+#[derive(Clone, Copy)]
 pub enum Wanted {
     /// Those before the word's line, or all, if that isn't at hand.
     Any,
@@ -22,7 +22,7 @@ pub enum Wanted {
 }
 
 /// What was taken of the lines at hand.
-#[derive(Clone, Copy, PartialEq, Eq)]
+#[derive(Clone, Copy)]
 pub enum Taken {
     /// The lines before the word's line, which was read, too. After it, bytes are still at hand, or none are.
     ToWord(bool),

@@ -251,7 +251,7 @@ impl<W: Write> Write for Counted<W> {
 }
 
 /// Why a reader could not be read to its end.
-#[derive(Clone, Copy, PartialEq, Eq)]
+#[derive(Clone, Copy)]
 pub enum ReadFault {
     /// A read failed, and was counted.
     Read,

@@ -17,7 +17,7 @@ pub(crate) const SMALL_SLACK: &str =
     "`slack` is smaller than the delay between the capture and the stack";
 
 /// What is known at a refused step, if the causes of its rule depend on it.
-#[derive(Clone, Copy, PartialEq, Eq)]
+#[derive(Clone, Copy)]
 pub enum Known {
     /// The answer refused is that of `listen`.
     Listen,

@@ -20,7 +20,7 @@ pub(crate) struct Deadline {
 }
 
 /// Which endpoints of a host a step may change, besides one that it creates.
-#[derive(Clone, Copy, PartialEq, Eq)]
+#[derive(Clone, Copy)]
 pub(crate) enum Affected {
     Nobody,
     Place(u32),

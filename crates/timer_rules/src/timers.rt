@@ -17,7 +17,7 @@ pub const LONGEST_RTO: u64 = 60_000_000;
 ///
 /// These are the retransmission timer, the persist timer and the wait in TIME-WAIT. `Timer::Giveup` is never armed, so
 /// the calls that name a timer accept any but that one. `Timer::Pto` is always off here: to arm it does nothing.
-#[derive(Clone, Copy, PartialEq, Eq)]
+#[derive(Clone, Copy)]
 pub struct Timers {
     /// The smoothed round trip time (SRTT); `None` before the first sample.
     pub srtt: Option<u64>,

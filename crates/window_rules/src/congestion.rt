@@ -4,7 +4,7 @@ ghost use Rattle.std.specs.Prelude.{◌≡◌};
 ghost use Rattle.window_rules.specs.Windows.{start};
 
 /// The congestion window of an endpoint and the values that it depends on. All but `dup` and `fast` are bytes.
-#[derive(Clone, Copy, PartialEq, Eq)]
+#[derive(Clone, Copy)]
 pub struct Congestion {
     /// The congestion window.
     pub cwnd: u32,

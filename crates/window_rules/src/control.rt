@@ -13,7 +13,7 @@ use crate::losses::{on_fast, on_timeout, recovery_window};
 use crate::windows::{GREATEST_WINDOW, congestion_edge, initial_window, initial_window_6928};
 
 /// The rules that an endpoint's congestion control follows.
-#[derive(Clone, Copy, PartialEq, Eq)]
+#[derive(Clone, Copy)]
 pub enum Profile {
     /// RFC 5681.
     Rfc5681 {
@@ -64,7 +64,7 @@ impl Profile {
 }
 
 /// What happened to an endpoint. All counts and sizes are bytes.
-#[derive(Clone, Copy, PartialEq, Eq)]
+#[derive(Clone, Copy)]
 pub enum Signal {
     /// The peer's SYN was received, and it doesn't acknowledge the endpoint's own.
     Syn {
@@ -106,7 +106,7 @@ pub enum Signal {
 }
 
 /// When it happened.
-#[derive(Clone, Copy, PartialEq, Eq)]
+#[derive(Clone, Copy)]
 pub struct At {
     /// In microseconds.
     pub moment: u64,
@@ -115,7 +115,7 @@ pub struct At {
 }
 
 /// The congestion control of an endpoint.
-#[derive(Clone, Copy, PartialEq, Eq)]
+#[derive(Clone, Copy)]
 pub struct Control {
     /// The window and the values that it depends on.
     pub values: Congestion,

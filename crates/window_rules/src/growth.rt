@@ -9,7 +9,7 @@ use crate::congestion::Congestion;
 use crate::windows::capped;
 
 /// How many bytes slow start may add to cwnd for each new acknowledgment (RFC 5681, 3.1).
-#[derive(Clone, Copy, PartialEq, Eq)]
+#[derive(Clone, Copy)]
 pub enum SlowStart {
     /// What the RFC recommends: as many as are newly acknowledged, at most SMSS (equation 2).
     Recommended,

@@ -16,7 +16,7 @@ use std::mem::replace;
 use trace_reader::read_trace;
 
 /// How a search ended.
-#[derive(Clone, Copy, PartialEq, Eq)]
+#[derive(Clone, Copy)]
 pub enum Ending {
     /// All lines are explained.
     Whole,

@@ -17,7 +17,7 @@ use spec_flights::Clocks;
 use spec_tcp::{Arrived, Emission};
 
 /// Whether something else may be done instead of a step.
-#[derive(Clone, Copy, PartialEq, Eq)]
+#[derive(Clone, Copy)]
 pub(crate) enum Will {
     Try,
     /// Nothing else is left to do. If the step is refused, it is written down: the witness then ends with it.

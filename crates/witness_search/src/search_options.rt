@@ -7,7 +7,7 @@ use case_forms::Host;
 pub const USUAL_BUDGET: u64 = 1_000_000;
 
 /// The hosts of which a trace shows each expiry of a timer. A search adds no expiry for them.
-#[derive(Clone, Copy, PartialEq, Eq)]
+#[derive(Clone, Copy)]
 pub struct ShownExpiries {
     pub zero: bool,
     pub one: bool,
@@ -24,7 +24,7 @@ impl ShownExpiries {
 }
 
 /// What a search is asked for.
-#[derive(Clone, Copy, PartialEq, Eq)]
+#[derive(Clone, Copy)]
 pub struct SearchOptions {
     /// How many steps are spent on going back for one line, at most, and 20 times as many in all. With 0, the search
     /// goes over the lines once.
