@@ -1,9 +1,8 @@
 //! One line of a reader, which stays in the reader's buffer.
 
-ghost use Rattle.std.specs.Prelude.{◌≡◌, ◌+◌, ◌≤◌, ◌<◌, ◌^◌, ℕ, Some, None, OnOk, IfOk, IfSome, MatchOption};
+ghost use Rattle.std.specs.Prelude.{◌≡◌, ◌+◌, ◌≤◌, ◌<◌, ◌^◌, OnOk, IfOk, IfSome, MatchOption};
 ghost use Rattle.std.specs.Prelude.{length, take, drop};
-ghost use Rattle.std.specs.Io.{StartsWith, appended_bytes};
-ghost use Rattle.std.specs.Io.KnownBytes.{Consumes, prepend_known};
+ghost use Rattle.std.specs.Io.KnownBytes.{prepend_known};
 ghost use Rattle.counted.specs.Counting.{left_of, line_of, unread_of, failures_of, one_more};
 ghost use Rattle.counted.specs.LineParts.{HasNoFeed, IsEnd, IsEndRead, IsAppended, GivesLine, discarded};
 ghost use Rattle.counted.specs.Buffered.{line_in, unread_in};

@@ -1,9 +1,8 @@
 //! One line of a reader, appended to a `Vec` a piece at a time.
 
-ghost use Rattle.std.specs.Prelude.{◌≡◌, ◌≢◌, ◌+◌, ◌≤◌, ◌<◌, ◌⊎◌, ◌^◌, [], OnOk, IfOk, IfSome, OnSome, ◌++◌};
-ghost use Rattle.std.specs.Prelude.{length, take, true, false};
+ghost use Rattle.std.specs.Prelude.{◌≡◌, ◌≢◌, ◌+◌, ◌≤◌, ◌<◌, ◌^◌, OnOk, IfOk, IfSome, ◌++◌};
+ghost use Rattle.std.specs.Prelude.{length, take};
 ghost use Rattle.std.specs.Io.{StartsWith, appended_bytes};
-ghost use Rattle.std.specs.Io.KnownBytes.{Consumes, IsAtEnd};
 ghost use Rattle.counted.specs.Counting.{left_of, failures_of, one_more};
 ghost use Rattle.counted.specs.LineParts.{IsPart, IsPartRead, IsAppended, GivesLine};
 ghost use Rattle.counted.specs.Buffered.{unread_in};
