@@ -7,7 +7,7 @@ use Rattle.std.proofs.lemmas.List.{take-append-drop, length-take-le}
 use Rattle.std.specs.Io.{StartsWith}
 use Rattle.std.specs.Io.KnownBytes.{Consumes, IsAtEnd, prepend_known}
 use Rattle.std.proofs.KnownBytes.{starts_with_rest}
-use Rattle.counted.specs.LineParts.{HasNoFeed, EndsAtFeed, EndsThere, IsKept, GivesLine, discarded}
+use Rattle.counted.specs.LineParts.{HasNoFeed, EndsAtFeed, EndsThere, IsKept, GivesLine, IsEndRead, IsAppended, discarded}
 use Rattle.counted.proofs.LineSoFar.{SoFar, line_ended, none_read}
 
 -- known bytes lose their front
@@ -90,7 +90,7 @@ ended_there most before line app a b c stop s took there =
         (subst (λ (xs : List ℕ). EndsAtFeed xs ⊎ ((xs ≡ []) × OnSome b (IsAtEnd rest))) (sym behind) ended) (omega arith)
 
 -- the same of what was appended
-pub line_there : (most before begin : ℕ) (line next : List ℕ) (a b c : Option (List ℕ)) (stop : ℕ) → SoFar most before line a b
+line_there : (most before begin : ℕ) (line next : List ℕ) (a b c : Option (List ℕ)) (stop : ℕ) → SoFar most before line a b
     → begin ≡ length line → StartsWith next line → Consumes b c (drop (length line) next) → EndsThere b c stop (drop (length line) next)
     → GivesLine most a (prepend_known (drop (begin + stop) next) c) (discarded before (begin + stop)) (take (begin + stop) next)
 line_there most before begin line next a b c stop s count starts took there =
@@ -104,6 +104,13 @@ line_there most before begin line next a b c stop s count starts took there =
     (subst (λ (xs : List ℕ). GivesLine most a (prepend_known (drop stop app) c) (discarded before (begin + stop)) xs) (sym front)
     (subst (λ (n : ℕ). GivesLine most a (prepend_known (drop stop app) c) (discarded before (n + stop)) (line ++ take stop app)) (sym count)
     (ended_there most before line app a b c stop s took there)))
+
+pub end_last : (most before begin limit : ℕ) (end : Option ℕ) (line next : List ℕ) (a b c : Option (List ℕ)) (stop : ℕ)
+    → SoFar most before line a b → begin ≡ length line → IsAppended limit (IsEndRead end b c) b c line next → end ≡ Some stop
+    → GivesLine most a (prepend_known (drop (begin + stop) next) c) (discarded before (begin + stop)) (take (begin + stop) next)
+end_last most before begin limit end line next a b c stop s count read is =
+    line_there most before begin line next a b c stop s count read.appends read.bytes
+    (subst (λ (o : Option ℕ). IsEndRead o b c (drop (length line) next)) is read.part)
 
 pub is_discarded : (before stop : ℕ) → 0 < before + stop → discarded before stop ≡ Some before
 is_discarded zero zero some = absurd (omega arith)

@@ -1,12 +1,12 @@
 -- A line that is read piece by piece.
 use Rattle.std.proofs.Common.{◌==◌, false, ◌≡◌, ◌≢◌, ◌<◌, ◌≤◌, ◌+◌, ◌⊎◌, inl, inr, refl, sym, ap, subst, ◌∙◌, arith, ℕ}
-use Rattle.std.proofs.Common.{zero, suc, List, [], ◌∷◌, ◌++◌, Option, None, Some, OnSome, length, take, drop}
+use Rattle.std.proofs.Common.{Bool, true, zero, suc, List, [], ◌∷◌, ◌++◌, Option, None, Some, OnSome, length, take, drop}
 use Rattle.std.proofs.Common.{append_assoc, append-nil, length-append}
 use Rattle.std.proofs.lemmas.List.Elements.{All-append, All-head, All-tail}
 use Rattle.std.specs.Io.{StartsWith}
 use Rattle.std.specs.Io.KnownBytes.{Consumes, IsAtEnd}
 use Rattle.std.proofs.KnownBytes.{Consumes-trans, starts_with_rest}
-use Rattle.counted.specs.LineParts.{HasNoFeed, EndsAtFeed, IsKept, GivesLine}
+use Rattle.counted.specs.LineParts.{HasNoFeed, EndsAtFeed, IsKept, GivesLine, IsPartRead, IsEndRead, IsAppended}
 
 -- what was read of a line has no LF, and what of it is not kept was counted
 abbrev pub SoFar : ℕ → ℕ → List ℕ → Option (List ℕ) → Option (List ℕ) → Type 0
@@ -118,3 +118,35 @@ pub not_longer : (line next : List ℕ) (most : ℕ) → StartsWith next line �
 not_longer line next most starts le =
     let len = ap length (starts_with_rest next line starts) ∙ length-append line (drop (length line) next) in
     omega (arith, len, le)
+
+-- a read whose part of a line has no end
+pub part_more : (most before limit : ℕ) (is_ended : Bool) (line next : List ℕ) (a b c : Option (List ℕ)) → SoFar most before line a b
+    → IsAppended limit (IsPartRead is_ended b c) b c line next → is_ended ≡ false → SoFar most before next a c
+part_more most before limit is_ended line next a b c s read is =
+    more_so_far most before line next a b c s read.appends read.bytes
+    (subst (λ (r : Bool). IsPartRead r b c (drop (length line) next)) is read.part)
+
+-- and one whose part has the end
+pub part_last : (most before limit : ℕ) (is_ended : Bool) (line next : List ℕ) (a b c : Option (List ℕ)) → SoFar most before line a b
+    → IsAppended limit (IsPartRead is_ended b c) b c line next → is_ended ≡ true → 0 < before + length next
+    → GivesLine most a c (Some before) next
+part_last most before limit is_ended line next a b c s read is some =
+    line_ended most before line next a b c s read.appends read.bytes
+    (subst (λ (r : Bool). IsPartRead r b c (drop (length line) next)) is read.part) some
+
+pub none_more : (most limit : ℕ) (is_ended : Bool) (line next : List ℕ) (a b c : Option (List ℕ)) → SoFar most 0 line a b
+    → IsAppended limit (IsPartRead is_ended b c) b c line next → is_ended ≡ true → length next ≡ 0 → GivesLine most a c None next
+none_more most limit is_ended line next a b c s read is none =
+    none_read most line next a b c s read.appends read.bytes
+    (subst (λ (r : Bool). IsPartRead r b c (drop (length line) next)) is read.part) none
+
+-- the same of a read that may go on behind the line
+pub end_more : (most before limit : ℕ) (stop : Option ℕ) (line next : List ℕ) (a b c : Option (List ℕ)) → SoFar most before line a b
+    → IsAppended limit (IsEndRead stop b c) b c line next → stop ≡ None → SoFar most before next a c
+end_more most before limit stop line next a b c s read is =
+    more_so_far most before line next a b c s read.appends read.bytes
+    (subst (λ (o : Option ℕ). IsEndRead o b c (drop (length line) next)) is read.part)
+
+pub few_more : (limit : ℕ) (P : List ℕ → Type 0) (line next : List ℕ) (b c : Option (List ℕ)) → IsAppended limit P b c line next
+    → length next ≤ length line + limit
+few_more limit P line next b c read = not_longer line next limit read.appends read.few

@@ -1,8 +1,10 @@
 -- What was taken of the lines that a reader has at hand.
-use Rattle.std.specs.Prelude.{◌≡◌, ◌⊎◌, ℕ, List, [], ◌∷◌, ◌++◌, Option, OnSome}
+use Rattle.std.specs.Prelude.{◌≡◌, ◌≢◌, ◌⊎◌, ℕ, List, [], ◌∷◌, ◌++◌, Option, OnSome}
 use Rattle.std.specs.List.{AllByRecursion, concat}
+use Rattle.std.specs.Io.{StartsWith, appended_bytes}
 use Rattle.std.specs.Io.KnownBytes.{Consumes, IsAtEnd}
 use Rattle.counted.specs.LineParts.{EndsAtFeed}
+use Rattle.counted.specs.declared.at_hand.Wanted.{Wanted}
 use Rattle.counted.specs.declared.at_hand.Taken.{Taken}
 use Rattle.counted.specs.declared.at_hand.Taken.TheVariants.{ToWord, Lines, Nothing, AtEnd}
 
@@ -25,3 +27,9 @@ Takes (ToWord more) word old new lines =
 Takes Lines word old new lines = AreOthers word lines × Consumes old new lines
 Takes Nothing word old new lines = (lines ≡ []) × Consumes old new []
 Takes AtEnd word old new lines = (lines ≡ []) × Consumes old new [] × OnSome old (IsAtEnd new)
+
+-- a buffer grows by the lines that are taken, and they are what is wanted
+pub record IsTaken (wanted : Wanted) (taken : Taken) (old new : Option (List ℕ)) (word buf next : List ℕ) : Type 0 where
+  pub appends : StartsWith next buf
+  pub takes : Takes taken word old new (appended_bytes buf next)
+  pub whole : wanted ≡ Wanted.ToWord → taken ≢ Lines

@@ -1,6 +1,7 @@
 -- What was read of a line.
 use Rattle.std.specs.Prelude.{◌≡◌, ◌≢◌, ◌<◌, ◌+◌, ◌⊎◌, ℕ, Bool, true, false, List, [], ◌∷◌, ◌++◌, length, All, Option}
 use Rattle.std.specs.Prelude.{Some, None, OnSome, ◌≤◌, zero, take}
+use Rattle.std.specs.Io.{StartsWith, appended_bytes}
 use Rattle.std.specs.Io.KnownBytes.{Consumes, IsAtEnd}
 
 -- no byte is LF
@@ -24,6 +25,23 @@ IsEnd stop bytes = (stop ≤ length bytes) × (EndsAtFeed (take stop bytes) ⊎ 
 abbrev pub EndsThere : Option (List ℕ) → Option (List ℕ) → ℕ → List ℕ → Type 0
 EndsThere old new stop bytes =
     (stop ≤ length bytes) × (EndsAtFeed (take stop bytes) ⊎ ((bytes ≡ []) × OnSome old (IsAtEnd new)))
+
+-- after bytes that were read, a line goes on, or is at its end: after its LF, or at the end of the input
+abbrev pub IsPartRead : Bool → Option (List ℕ) → Option (List ℕ) → List ℕ → Type 0
+IsPartRead false old new bytes = HasNoFeed bytes
+IsPartRead true old new bytes = EndsAtFeed bytes ⊎ ((bytes ≡ []) × OnSome old (IsAtEnd new))
+
+-- in bytes that were read, a line goes on, or ends after so many
+abbrev pub IsEndRead : Option ℕ → Option (List ℕ) → Option (List ℕ) → List ℕ → Type 0
+IsEndRead None old new bytes = HasNoFeed bytes
+IsEndRead (Some stop) old new bytes = EndsThere old new stop bytes
+
+-- a line grows by at most so many bytes, which the known bytes lose, and `P` holds of them
+pub record IsAppended (most : ℕ) (P : List ℕ → Type 0) (old new : Option (List ℕ)) (line next : List ℕ) : Type 0 where
+  pub appends : StartsWith next line
+  pub few : length (appended_bytes line next) ≤ most
+  pub bytes : Consumes old new (appended_bytes line next)
+  pub part : P (appended_bytes line next)
 
 -- known bytes lose their first line: up to its LF, or all that is left
 abbrev pub LosesLine : Option (List ℕ) → Option (List ℕ) → List ℕ → Type 0

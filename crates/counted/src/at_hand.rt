@@ -1,10 +1,10 @@
 //! The lines that a reader has at hand, up to the line of a word.
 
 ghost use Rattle.std.specs.Prelude.{◌≡◌, ◌≢◌, ◌↔◌, ◌+◌, ◌≤◌, ◌<◌, ◌^◌, OnOk, OnErr, IfOk, IsTrue, length};
-ghost use Rattle.std.specs.Prelude.{slice_range, IfSome, take};
+ghost use Rattle.std.specs.Prelude.{slice_range, IfSome, MatchResult, take};
 ghost use Rattle.std.specs.Io.{StartsWith, appended_bytes};
 ghost use Rattle.counted.specs.Counting.{left_of, failures_of, calls_of, one_call_more, one_more, unread_of};
-ghost use Rattle.counted.specs.AtHand.{AreOthers, IsWordLine, Takes};
+ghost use Rattle.counted.specs.AtHand.{AreOthers, IsWordLine, IsTaken, Takes};
 ghost use Rattle.counted.specs.declared.at_hand.Wanted.{Wanted};
 ghost use Rattle.counted.specs.declared.at_hand.Taken.{Taken};
 
@@ -86,11 +86,10 @@ fn append_wanted<B: BufRead>(
     wanted: Wanted,
     buf: &mut Vec<u8>,
 ) -> Result<Taken, ReadFault>
-    ensures appends { StartsWith buf.new.items buf.old.items }
-    ensures taken { IfOk result (λ taken. Takes taken word.now (B.remaining inner.old) (B.remaining inner.new)
-        (appended_bytes buf.old.items buf.new.items)) }
-    ensures whole { wanted ≡ Wanted.ToWord → result ≢ Ok Taken.Lines }
-    ensures err { OnErr result (buf.new.items ≡ buf.old.items) }
+    ensures { MatchResult result
+        (λ taken. IsTaken wanted taken (B.remaining inner.old) (B.remaining inner.new)
+        word.now buf.old.items buf.new.items)
+        (λ _. buf.new.items ≡ buf.old.items) }
 {
     let available = match inner.fill_buf() {
         Ok(available) => available,

@@ -1,11 +1,10 @@
 //! One line of a reader, which stays in the reader's buffer.
 
-ghost use Rattle.std.specs.Prelude.{◌≡◌, ◌+◌, ◌≤◌, ◌<◌, ◌^◌, ℕ, Some, None, OnOk, IfOk, IfSome, MatchOption};
+ghost use Rattle.std.specs.Prelude.{◌≡◌, ◌+◌, ◌≤◌, ◌<◌, ◌^◌, OnOk, IfOk, IfSome, MatchOption};
 ghost use Rattle.std.specs.Prelude.{length, take, drop};
-ghost use Rattle.std.specs.Io.{StartsWith, appended_bytes};
-ghost use Rattle.std.specs.Io.KnownBytes.{Consumes, prepend_known};
+ghost use Rattle.std.specs.Io.KnownBytes.{prepend_known};
 ghost use Rattle.counted.specs.Counting.{left_of, line_of, unread_of, failures_of, one_more};
-ghost use Rattle.counted.specs.LineParts.{HasNoFeed, IsEnd, EndsThere, GivesLine, discarded};
+ghost use Rattle.counted.specs.LineParts.{HasNoFeed, IsEnd, IsEndRead, IsAppended, GivesLine, discarded};
 ghost use Rattle.counted.specs.Buffered.{line_in, unread_in};
 
 use crate::buffer::Buffer;
@@ -31,14 +30,8 @@ fn line_end(bytes: &[u8]) -> Option<usize>
 // Appends the bytes of one read, up to a limit, to a line that isn't at its end, and returns where it ends in these
 // bytes, if it does; the end of the input is none. Nothing is counted.
 fn append_bytes<B: BufRead>(inner: &mut B, line: &mut Vec<u8>) -> Result<Option<usize>, ReadFault>
-    ensures appends { StartsWith line.new.items line.old.items }
-    ensures most { length (appended_bytes line.old.items line.new.items) ≤ 8192 }
-    ensures bytes { Consumes (B.remaining inner.old) (B.remaining inner.new)
-        (appended_bytes line.old.items line.new.items) }
-    ensures more { result ≡ Ok None → HasNoFeed (appended_bytes line.old.items line.new.items) }
-    ensures ended { (stop : ℕ) → result ≡ Ok (Some stop)
-        → EndsThere (B.remaining inner.old) (B.remaining inner.new) stop
-        (appended_bytes line.old.items line.new.items) }
+    ensures { IfOk result (λ stop. IsAppended 8192 (IsEndRead stop (B.remaining inner.old) (B.remaining inner.new))
+        (B.remaining inner.old) (B.remaining inner.new) line.old.items line.new.items) }
 {
     let available = match inner.fill_buf() {
         Ok(available) => available,
@@ -57,14 +50,9 @@ fn append_bytes<B: BufRead>(inner: &mut B, line: &mut Vec<u8>) -> Result<Option<
 impl<B: BufRead> End<B> {
     // Appends the bytes of one read, as `append_bytes`; the call and its failure are counted.
     fn append_piece(&mut self, line: &mut Vec<u8>) -> Result<Option<usize>, ReadFault>
-        ensures appends { StartsWith line.new.items line.old.items }
-        ensures most { length (appended_bytes line.old.items line.new.items) ≤ 8192 }
-        ensures bytes { Consumes (B.remaining self.old.inner) (B.remaining self.new.inner)
-            (appended_bytes line.old.items line.new.items) }
-        ensures more { result ≡ Ok None → HasNoFeed (appended_bytes line.old.items line.new.items) }
-        ensures ended { (stop : ℕ) → result ≡ Ok (Some stop)
-            → EndsThere (B.remaining self.old.inner) (B.remaining self.new.inner) stop
-            (appended_bytes line.old.items line.new.items) }
+        ensures piece { IfOk result (λ stop. IsAppended 8192
+            (IsEndRead stop (B.remaining self.old.inner) (B.remaining self.new.inner))
+            (B.remaining self.old.inner) (B.remaining self.new.inner) line.old.items line.new.items) }
         ensures ok { OnOk result (self.new.failures ≡ self.old.failures) }
         ensures read { result ≡ Err ReadFault.Read → self.new.failures ≡ one_more self.old.failures }
         ensures memory { result ≡ Err ReadFault.OutOfMemory → self.new.failures ≡ self.old.failures }

@@ -1,11 +1,10 @@
 //! One line of a reader, appended to a `Vec` a piece at a time.
 
-ghost use Rattle.std.specs.Prelude.{◌≡◌, ◌≢◌, ◌+◌, ◌≤◌, ◌<◌, ◌⊎◌, ◌^◌, [], OnOk, IfOk, IfSome, OnSome, ◌++◌};
-ghost use Rattle.std.specs.Prelude.{length, take, true, false};
+ghost use Rattle.std.specs.Prelude.{◌≡◌, ◌≢◌, ◌+◌, ◌≤◌, ◌<◌, ◌^◌, OnOk, IfOk, IfSome, ◌++◌};
+ghost use Rattle.std.specs.Prelude.{length, take};
 ghost use Rattle.std.specs.Io.{StartsWith, appended_bytes};
-ghost use Rattle.std.specs.Io.KnownBytes.{Consumes, IsAtEnd};
 ghost use Rattle.counted.specs.Counting.{left_of, failures_of, one_more};
-ghost use Rattle.counted.specs.LineParts.{HasNoFeed, EndsAtFeed, IsPart, GivesLine};
+ghost use Rattle.counted.specs.LineParts.{IsPart, IsPartRead, IsAppended, GivesLine};
 ghost use Rattle.counted.specs.Buffered.{unread_in};
 
 use crate::buffer::Buffer;
@@ -47,14 +46,9 @@ fn line_part(bytes: &[u8], most: usize) -> (usize, bool)
 #[inline(always)]
 fn append_part<B: BufRead>(inner: &mut B, most: usize, buf: &mut Vec<u8>) -> Result<bool, ReadFault>
     requires { 0 < most }
-    ensures appends { StartsWith buf.new.items buf.old.items }
-    ensures most { length (appended_bytes buf.old.items buf.new.items) ≤ most }
-    ensures bytes { Consumes (B.remaining inner.old) (B.remaining inner.new)
-        (appended_bytes buf.old.items buf.new.items) }
-    ensures more { result ≡ Ok false → HasNoFeed (appended_bytes buf.old.items buf.new.items) }
-    ensures ended { result ≡ Ok true → EndsAtFeed (appended_bytes buf.old.items buf.new.items)
-        ⊎ ((appended_bytes buf.old.items buf.new.items ≡ [])
-        × OnSome (B.remaining inner.old) (IsAtEnd (B.remaining inner.new))) }
+    ensures { IfOk result (λ is_ended. IsAppended most
+        (IsPartRead is_ended (B.remaining inner.old) (B.remaining inner.new))
+        (B.remaining inner.old) (B.remaining inner.new) buf.old.items buf.new.items) }
 {
     let available = match inner.fill_buf() {
         Ok(available) => available,
@@ -72,14 +66,9 @@ impl<B: BufRead> End<B> {
     // Appends the bytes of one read of a line, as `append_part`; the call and its failure are counted.
     fn append_line_piece(&mut self, most: usize, buf: &mut Vec<u8>) -> Result<bool, ReadFault>
         requires { 0 < most }
-        ensures appends { StartsWith buf.new.items buf.old.items }
-        ensures most { length (appended_bytes buf.old.items buf.new.items) ≤ most }
-        ensures bytes { Consumes (B.remaining self.old.inner) (B.remaining self.new.inner)
-            (appended_bytes buf.old.items buf.new.items) }
-        ensures more { result ≡ Ok false → HasNoFeed (appended_bytes buf.old.items buf.new.items) }
-        ensures ended { result ≡ Ok true → EndsAtFeed (appended_bytes buf.old.items buf.new.items)
-            ⊎ ((appended_bytes buf.old.items buf.new.items ≡ [])
-            × OnSome (B.remaining self.old.inner) (IsAtEnd (B.remaining self.new.inner))) }
+        ensures piece { IfOk result (λ is_ended. IsAppended most
+            (IsPartRead is_ended (B.remaining self.old.inner) (B.remaining self.new.inner))
+            (B.remaining self.old.inner) (B.remaining self.new.inner) buf.old.items buf.new.items) }
         ensures ok { OnOk result (self.new.failures ≡ self.old.failures) }
         ensures read { result ≡ Err ReadFault.Read → self.new.failures ≡ one_more self.old.failures }
         ensures memory { result ≡ Err ReadFault.OutOfMemory → self.new.failures ≡ self.old.failures }
@@ -120,14 +109,9 @@ impl<B: BufRead> Counted<B> {
     // or at the end of the input, if there are no bytes.
     fn append_line_piece(&mut self, most: usize, buf: &mut Vec<u8>) -> Result<bool, ReadFault>
         requires { 0 < most }
-        ensures appends { StartsWith buf.new.items buf.old.items }
-        ensures most { length (appended_bytes buf.old.items buf.new.items) ≤ most }
-        ensures bytes { Consumes (left_of B.remaining self.old) (left_of B.remaining self.new)
-            (appended_bytes buf.old.items buf.new.items) }
-        ensures more { result ≡ Ok false → HasNoFeed (appended_bytes buf.old.items buf.new.items) }
-        ensures ended { result ≡ Ok true → EndsAtFeed (appended_bytes buf.old.items buf.new.items)
-            ⊎ ((appended_bytes buf.old.items buf.new.items ≡ [])
-            × OnSome (left_of B.remaining self.old) (IsAtEnd (left_of B.remaining self.new))) }
+        ensures piece { IfOk result (λ is_ended. IsAppended most
+            (IsPartRead is_ended (left_of B.remaining self.old) (left_of B.remaining self.new))
+            (left_of B.remaining self.old) (left_of B.remaining self.new) buf.old.items buf.new.items) }
         ensures ok { OnOk result (failures_of self.new ≡ failures_of self.old) }
         ensures read { result ≡ Err ReadFault.Read → failures_of self.new ≡ one_more (failures_of self.old) }
         ensures memory { result ≡ Err ReadFault.OutOfMemory → failures_of self.new ≡ failures_of self.old }

@@ -1,23 +1,22 @@
-use Rattle.std.proofs.Common.{◌<◌, ◌∙◌, Ok, ap, arith, rules, length}
-use Rattle.counted.proofs.LineSoFar.{more_so_far, dropped_so_far, not_longer}
-use Rattle.counted.proofs.BufferLines.{line_there}
+use Rattle.std.proofs.Common.{◌<◌, arith, rules, length}
+use Rattle.counted.proofs.LineSoFar.{dropped_so_far, end_more, few_more}
+use Rattle.counted.proofs.BufferLines.{end_last}
 use Rattle.counted.proofs.ends.End.complete.Goals.{then-len-most, else-len-most}
 use Rattle.counted.proofs.ends.End.complete.Goals as goal
 
 pub returns-in-Some-clause-line : goal.returns-in-Some-clause-line
 returns-in-Some-clause-line g c =
-    let piece = c.append_piece.ensures in
-    line_there c.args.most c.loop.before c.len-begin.result c.loop.line.items c.append_piece.new.line.items _ _ _ c.in-Some.stop
-    c.loop.invariant.so_far (search rules) piece.appends piece.bytes (piece.ended c.in-Some.stop (c.in_ok-stop.was ∙ ap Ok c.in-Some.is))
+    let piece = c.in_ok-stop.ensures.piece in
+    end_last c.args.most c.loop.before c.len-begin.result 8192 _ c.loop.line.items c.append_piece.new.line.items _ _ _ c.in-Some.stop
+    c.loop.invariant.so_far (search rules) piece c.in-Some.is
 
 pub loop-preserved : goal.loop-preserved
 loop-preserved g c =
-    let piece = c.append_piece.ensures in
+    let piece = c.in_ok-stop.ensures.piece in
     let more =
-    more_so_far c.args.most c.loop.before c.loop.line.items c.append_piece.new.line.items _ _ _
-    c.loop.invariant.so_far piece.appends piece.bytes
-    (piece.more (c.in_ok-stop.was ∙ ap Ok c.in_default.is)) in
-    let longer = not_longer c.loop.line.items c.append_piece.new.line.items 8192 piece.appends piece.most in
+    end_more c.args.most c.loop.before 8192 _ c.loop.line.items c.append_piece.new.line.items _ _ _
+    c.loop.invariant.so_far piece c.in_default.is in
+    let longer = few_more 8192 _ c.loop.line.items c.append_piece.new.line.items _ _ piece in
     let few = c.loop.invariant.few in
     elim c.if-len-most.branch [
       | then-len-most w ↦
