@@ -13,7 +13,7 @@ use memchr::memchr;
 use std::io::BufRead;
 
 /// Which lines at hand are taken.
-#[derive(Clone, Copy)]
+#[derive(Clone, Copy, PartialEq, Eq)]
 pub enum Wanted {
     /// Those before the word's line, or all, if that isn't at hand.
     Any,
