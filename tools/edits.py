@@ -281,7 +281,7 @@ def try_crate(crate, edits):
             done = [(edit, passed, said) for edit, passed, said in results if passed is not None]
             if not done:
                 done = [(edit, False, said) for edit, _, said in results]
-            lines += [f"{edit.name}: {said}" if passed else f"{edit.name}: FAILED: {said}" for edit, passed, said in done]
+            lines += [f"{edit.name}: {said if passed else f'FAILED: {said}'}" for edit, passed, said in done]
             failed += sum(not passed for _, passed, _ in done)
             left = [edit for edit in left if edit not in {edit for edit, _, _ in done}]
             most = len(edits)
