@@ -11,9 +11,10 @@ no name). An edit with the line `accepted: yes` means what was there before, so 
 prover looks at meanings.
 
 The libraries are those that `rt ci` left in crates/*/out/rlib. In a round, one edit of each function of a crate is made
-in a copy, and these functions are checked. An edit is refused if the line of its own function says that it isn't
-proved, and of a body of tools/wrong_bodies, if its clause isn't. If an edit can't be read, nothing in its round has a
-verdict; the round is halved until the edit is alone.
+in a copy, and these functions are checked. An edit of a definition changes what other functions promise, so it is
+alone in its round, and its function is a law about the definition. An edit is refused if the line of its own function
+says that it isn't proved, and of a body of tools/wrong_bodies, if its clause isn't. If an edit can't be read, nothing in
+its round has a verdict; the round is halved until the edit is alone.
 
 One body for each promise is tried; with --all, all are. NAME selects the edits of a crate, or one edit. --list only
 prints a table of the bodies for promises. The last line is 'N passed, M failed'.
@@ -63,6 +64,7 @@ class Edit:
         values = dict(self.lines)
         self.promise, self.function, self.clause, accepted = (values.get(key, "") for key in KEYS[:4])
         self.is_accepted = accepted == "yes"
+        self.is_of_definition = any(key == "file" and value.startswith("specs/") for key, value in self.lines)
 
     def changed(self, folder):
         """The text of each changed file of the crate, whose sources the folder has, by its path there."""
@@ -260,8 +262,9 @@ def rtlib():
 
 
 def next_round(edits):
-    """The next edits that are tried together: at most one of each function."""
-    return list({edit.function: edit for edit in reversed(edits)}.values())[::-1]
+    """The next edits that are tried together: at most one of each function, and one of a definition alone."""
+    bodies = [edit for edit in edits if not edit.is_of_definition]
+    return list({edit.function: edit for edit in reversed(bodies)}.values())[::-1] or edits[:1]
 
 
 def try_crate(crate, edits):
