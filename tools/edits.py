@@ -13,8 +13,8 @@ prover looks at meanings.
 The libraries are those that `rt ci` left in crates/*/out/rlib. In a round, one edit of each function of a crate is made
 in a copy, and these functions are checked. An edit of a definition changes what other functions promise, so it is
 alone in its round, and its function is a law about the definition. An edit is refused if the line of its own function
-says that it isn't proved, and of a body of tools/wrong_bodies, if its clause isn't. If an edit can't be read, nothing in
-its round has a verdict; the round is halved until the edit is alone.
+says that it isn't proved, and of a body of tools/wrong_bodies, if its clause isn't. If an edit can't be read, nothing
+in its round has a verdict; the round is halved until the edit is alone.
 
 One body for each promise is tried; with --all, all are. NAME selects the edits of a crate, or one edit. --list only
 prints a table of the bodies for promises. The last line is 'N passed, M failed'.
