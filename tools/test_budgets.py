@@ -1,6 +1,8 @@
 #!/usr/bin/python3
 """Tests tools/budgets.py on a small tree, and that budgets.txt has the date of the measured proofs."""
 import collections
+import contextlib
+import io
 import os
 import re
 import sys
@@ -62,6 +64,23 @@ class Counts(unittest.TestCase):
             "public functions without a row": 1})
 
 
+    def status(self, *options, crates):
+        """The status of a run with this number of crates, and what the file's first line is then."""
+        lines = [f"  {sum(count)}  {count[0]}  {name}  a reason\n" for name, count in budgets.counted().items()]
+        with open(f"{budgets.TOP}/budgets.txt", "w", encoding="utf-8") as file:
+            file.writelines([f"  {crates}  2  crates  a reason\n", *lines[1:]])
+        with mock.patch.object(sys, "argv", ["budgets.py", *options]), contextlib.redirect_stdout(io.StringIO()), \
+                self.assertRaises(SystemExit) as end:
+            budgets.main()
+        return end.exception.code, " ".join(budgets.read("budgets.txt").splitlines()[0].split())
+
+    def test_the_status(self):
+        self.assertEqual(self.status(crates=2), (0, "2 2 crates a reason"))
+        self.assertEqual(self.status(crates=1), (1, "1 2 crates a reason"))
+        self.assertEqual(self.status("--write", crates=1), (1, "1 2 crates a reason"))
+        self.assertEqual(self.status("--write", crates=3), (0, "2 2 crates a reason"))
+
+
 class Comparing(unittest.TestCase):
     TEXT = "# Words\n\n  10  10  crates    the house\n  101  100  words of a  a page\n  3  3  gone  none\n"
 
@@ -97,7 +116,7 @@ class Stored(unittest.TestCase):
     def test_the_date_of_the_measured_proofs(self):
         section = budgets.read("docs/design/proving.md").split("\n## What proofs cost\n")[1]
         date = re.search(r"\b\d+ [A-Z]\w+ \d{4}\b", section)[0]
-        self.assertIn(f"measured on {date}", budgets.read("budgets.txt"))
+        self.assertIn(f"measured on {date}", budgets.read("budgets.txt"), "write the page's date into budgets.txt")
 
 
 if __name__ == "__main__":
