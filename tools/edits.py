@@ -13,8 +13,8 @@ prover looks at meanings.
 The libraries are those that `rt ci` left in crates/*/out/rlib. In a round, one edit of each function of a crate is made
 in a copy, and these functions are checked. An edit of a definition changes what other functions promise, so it is
 alone in its round, and its function is a law about the definition. An edit is refused if the line of its own function
-says that it isn't proved, and of a body of tools/wrong_bodies, if its clause isn't. If an edit can't be read, nothing
-in its round has a verdict; the round is halved until the edit is alone.
+says that it isn't proved, and a goal of that function isn't; for a body of tools/wrong_bodies, its clause. If an edit
+can't be read, nothing in its round has a verdict; the round is halved until the edit is alone.
 
 One body for each promise is tried; with --all, all are. NAME selects the edits of a crate, or one edit. --list only
 prints a table of the bodies for promises. The last line is 'N passed, M failed'.
@@ -40,12 +40,11 @@ REFUSED = ("not proved", "expected answers", "no proof: expected answers")
 WAITS = ("no proof: it calls", "depends on")
 # What a check says of a goal that it doesn't prove: in a note, of a proof file, or in the line of a function whose
 # proof it looked for.
-NOTE = re.compile(r"note: \S+?:\d+:\d+: it is not proved that what the function ensures holds when it returns "
-                  r"\(`([^`]*)`\)")
-ANSWER = re.compile(r"\S*?proofs/(\S+)/Answers\.antt:\d+:\d+: error: `(returns[^`]*)`: (.*)")
-SEARCH = re.compile(r"`search` did not prove (.*)")
-# A proof file that names what the edit took away says nothing of the clause.
-TAKEN = re.compile(r"has no field|is not in scope|has no `")
+NOTE = re.compile(r"note: \S+?:\d+:\d+: it is not proved that .*? \(`([^`]*)`\)")
+ANSWER = re.compile(r"\S*?proofs/(\S+)/(?:Answers|Proof)\.antt:\d+:\d+: error: `([^`]*)`: (.*)")
+SEARCH = re.compile(r"`search` did not prove ((?:`[^`]*`(?:, | and )?)*)")
+# A proof file that names what the edit took away says nothing of a goal.
+TAKEN = re.compile(r"has no field|is not in scope|has no `|was not admitted")
 
 
 class Edit:
@@ -154,16 +153,21 @@ def rows(edits):
 
 
 def goals_in(line):
-    """The goals of clauses that a line of a check says aren't proved, and the function if the line names it by its
-    proof file."""
+    """The goals that a line of a check says aren't proved, and the function if the line names it by its proof file."""
     note, answer, search = (form.search(line) for form in (NOTE, ANSWER, SEARCH))
     if answer:
         return [] if TAKEN.search(answer[3]) else [answer[2]], answer[1].replace("/", "::")
-    return [note[1]] if note else re.findall(r"`(returns[^`]*)`", search[1]) if search else [], ""
+    return [note[1]] if note else re.findall(r"`([^`]*)`", search[1]) if search else [], ""
+
+
+def clause_of(goal):
+    """The clause that a goal at a return belongs to; the goal itself if it is another one, as an index in bounds."""
+    return (goal.partition("clause-")[2] or "result") if goal.startswith("returns") else goal
 
 
 def functions_in(told):
-    """What a check says of each function, by its name: the end of its line, and the clauses that it didn't prove.
+    """What a check says of each function, by its name: the end of its line, and the clauses and goals that it didn't
+    prove.
 
     In a proof file, a clause that isn't proved may be true, with a proof that doesn't fit the edit.
     """
@@ -181,8 +185,7 @@ def functions_in(told):
     for function, goal in named:
         for name in ending(found, function):
             found[name][1].append(goal)
-    return {name: (said, {goal.partition("clause-")[2] or "result" for goal in goals})
-            for name, (said, goals) in found.items()}
+    return {name: (said, {clause_of(goal) for goal in goals}) for name, (said, goals) in found.items()}
 
 
 def ending(found, function):
@@ -202,9 +205,11 @@ def judge(edit, found):
         return edit.is_accepted, "proved, as it should be" if edit.is_accepted else "PROVED"
     if edit.is_accepted or not said.startswith(REFUSED):
         return False, f"NOT REFUSED BUT: {said[:200]}" if not edit.is_accepted else f"NOT PROVED: {said[:200]}"
+    if not clauses:
+        return False, f"refused BY NO GOAL; its proof may name what is gone: {said[:200]}"
     if edit.clause and edit.clause not in clauses:
-        return False, f"refused by {', '.join(sorted(clauses)) or 'no clause'}, and NOT BY {edit.clause}"
-    return True, edit.clause or ", ".join(sorted(clauses)) or said[:100]
+        return False, f"refused by {', '.join(sorted(clauses))}, and NOT BY {edit.clause}"
+    return True, edit.clause or ", ".join(sorted(clauses))
 
 
 class Room:

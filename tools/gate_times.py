@@ -5,9 +5,8 @@ edits (mutants).
     python3 tools/gate_times.py [--out FILE] [COMMAND ..]
 
 Four times a second, it reads the time that each process below the command has used. The process's --crate-name shows
-its crate. A process that works on a copy in a folder rt-edit-.. belongs to the edits; one with --test belongs to the
-tests. The last quarter of a second of each process is missed. The first edit of a crate proves the whole crate again,
-and each further one only what it changes; the last column shows the longest of the further ones.
+its crate. A process that works on a copy in a folder rt-edit.. (an edit of must-fail) or edits-.. (tools/edits.py)
+belongs to the edits; one with --test belongs to the tests. The last quarter of a second of each process is missed.
 """
 
 import os
@@ -56,9 +55,9 @@ def described(pid):
     if "--crate-name" not in words:
         return None
     crate = words[words.index("--crate-name") + 1]
-    if "/rt-edit-" in folder:
-        return crate, "edits", folder
-    return crate, "tests" if "--test" in words else "proof", None
+    if "/rt-edit" in folder or "/edits-" in folder:
+        return crate, "edits"
+    return crate, "tests" if "--test" in words else "proof"
 
 
 def main():
@@ -82,23 +81,16 @@ def main():
                 names[key] = described(pid)
         time.sleep(0.25)
     lasted = time.time() - started
-    sums, single = {}, {}
-    for key, seconds in sorted(used.items(), key=lambda it: it[0][1]):
-        crate, kind, folder = names[key] or ("other", "proof", None)
+    sums = {}
+    for key, seconds in used.items():
+        crate, kind = names[key] or ("other", "proof")
         row = sums.setdefault(crate, {"proof": 0.0, "tests": 0.0, "edits": 0.0})
         row[kind] += seconds
-        if folder:
-            edits = single.setdefault(crate, {})
-            edits[folder] = edits.get(folder, 0.0) + seconds
     print(f"{lasted:.0f} s of the clock, {sum(used.values()) / 60:.1f} processor minutes", file=out)
-    print("| crate | proof | tests | edits | longest |", file=out)
-    print("|---|---|---|---|---|", file=out)
+    print("| crate | proof | tests | edits |", file=out)
+    print("|---|---|---|---|", file=out)
     for crate, row in sorted(sums.items(), key=lambda it: -sum(it[1].values())):
-        others = list(single.get(crate, {}).values())[1:]
-        longest = f"{max(others):.0f}" if others else ""
-        print(f"| `{crate}` | {row['proof']:.0f} | {row['tests']:.0f} | {row['edits']:.0f} | {longest} |", file=out)
-    for crate, edits in sorted(single.items()):
-        print(f"{crate}: {' '.join(f'{it:.0f}' for it in edits.values())}", file=out)
+        print(f"| `{crate}` | {row['proof']:.0f} | {row['tests']:.0f} | {row['edits']:.0f} |", file=out)
     return command.returncode
 
 

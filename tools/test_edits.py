@@ -105,6 +105,7 @@ class Judged(unittest.TestCase):
         self.assertTrue(judged(BY_CLAUSES))
         self.assertTrue(judged(BY_INDEX))
         self.assertTrue(judged(BY_SEARCH))
+        self.assertFalse(judged(BY_NAME))
         self.assertFalse(judged(PROVED))
         self.assertIsNone(judged(BY_CALLED))
         self.assertFalse(judged("fn seqno::word::number: not proved\n"))
@@ -133,8 +134,9 @@ class Judged(unittest.TestCase):
 
     def test_what_cannot_be_read_is_found_by_halves(self):
         good, bad = (types.SimpleNamespace(function=name, clause="", is_accepted=False, name=name) for name in "fg")
-        room = types.SimpleNamespace(check=lambda chosen: "src/a.rt:1:1: error[unexpected-token]\n" if bad in chosen
-                                     else "fn a::f: not proved\nonly=1 proved=0\n")
+        refused = "fn a::f: no proof: expected answers; `search` did not prove `returns`\nonly=1 proved=0\n"
+        unread = "src/a.rt:1:1: error[unexpected-token]\n"
+        room = types.SimpleNamespace(check=lambda chosen: unread if bad in chosen else refused)
         self.assertIsNone(tool.Room.tried(room, [good, bad]))
         self.assertEqual(tool.Room.tried(room, [good])[0][1], True)
         self.assertEqual(tool.Room.tried(room, [bad])[0][1:],

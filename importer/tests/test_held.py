@@ -104,7 +104,7 @@ class Hostile(unittest.TestCase):
                        {"blocks": lambda at: ((0, 1 << 40),) * 4}, {"blocks": lambda at: ((3 * at, 3 * at + 1),)},
                        {"blocks": lambda at: ((1 << 40 - at % 9, 1 << 41), (at, 1))}):
             self.assertLess(self.seconds(4000, **others), 5 + 20 * self.seconds(1000, **others), others)
-            self.assertLess(self.seconds(16000, **others), 30, others)
+            self.assertLess(self.seconds(8000, **others), 7.5, others)
 
 
 if __name__ == "__main__":

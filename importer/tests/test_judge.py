@@ -26,7 +26,8 @@ if [ "$1" = draw ]; then echo '<svg/>'; exit 0; fi
 if [ "$1" = explain ]; then echo 'explained'; exit 1; fi
 cat > {folder}/given
 for word; do [ "$before" = --case ] && echo 'a case' > "$word"; before=$word; done
-case "$(head -n 1 {folder}/given)" in "trace 6") cat {folder}/below; exit {below} ;; esac
+read -r first < {folder}/given
+[ "$first" = "trace 6" ] && {{ cat {folder}/below; exit {below}; }}
 cat {folder}/answer
 exit {status}
 """
