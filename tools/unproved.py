@@ -5,19 +5,21 @@
     python3 tools/unproved.py --object NAME CALLS OUT
     python3 tools/unproved.py --keep NAME ..
 
-NAME is a crate with a `main`, OUT the file of the program. With --object, NAME is a static library, CALLS a file of
-tests that call each function that it exports, and OUT an object file with these functions. With --keep, the program of
-each crate is built as `./tcpwit` builds it, unless a current one exists, and its path is printed. Since `tcpwit` and
-`tcpwit_lab` share most of their code, --keep builds both as one program, which has two names and chooses by its name.
-The status is 127 if there is no program and none can be built.
+NAME is a crate with a `main`, or a program in tests/, and OUT the file of the program. With --object, NAME is a static
+library, CALLS a file of tests that call each function that it exports, and OUT an object file with these functions.
+With --keep, each program is built as `./tcpwit` builds it, unless a current one exists, and its path is printed. Since
+`tcpwit` and `tcpwit_lab` share most of their code, --keep builds both as one program, which has two names and chooses
+by its name, and so it builds the programs in tests/. The status is 127 if there is no program and none can be built.
 
 `rt try` builds a module of the whole program, compiles and runs it, and keeps nothing. This script takes the module
 that `rt try` passes to its compiler, and compiles and links it with the toolchain's own tools. The module has a
 run-time check instead of each proof: if one fails, the program stops instead of continuing with a wrong value. The
 script depends on the folder layout of the November 2026 toolchain.
 """
+import concurrent.futures
 import contextlib
 import fcntl
+import functools
 import glob
 import os
 import pwd
@@ -54,15 +56,18 @@ for word in "$@"; do
 done
 exec {clang} "$@"
 """
-# The toolchain gives these handles only to `main` and to tests. A test that is a function like others takes them.
-TEST_HEAD = ("pub(crate) fn {name}<H: std::process::Abort + std::sync::Wait + std::thread::Threads + Sync>("
-             "rt: &H, alloc: std::alloc::Global)")
+# A test of `test_runs`. The toolchain gives handles only to `main` and to tests, so as a function like others, it takes
+# them.
 TEST = re.compile(r"(?ms)^#\[test\]\nfn (\w+)\(rt: HostRuntime\) (\{.*?^\})")
-# The file that runs each test by its name.
+TAKER = """pub(crate) fn {name}<H: std::process::Abort + std::sync::Wait + std::thread::Threads + Sync>(
+    {more}rt: &H,
+    alloc: std::alloc::Global,
+)"""
+# The file of `test_runs` that has all its tests.
 ALL = """//! All tests.
 
 // Runs the test of a name, and returns whether there is one. If it fails, the program stops.
-{head} -> bool {{
+{taker} -> bool {{
     match name {{
 {arms}        _ => return false,
     }}
@@ -148,9 +153,8 @@ def kit_beside(folder, kept):
     write_script(f"{folder}/toolchain/bin/clang", KEEPER.format(kept=kept, clang=f"{whole}/toolchain/bin/clang"))
 
 
-def module_of(name, folder, *words, top=TOP):
-    """The module of a program, as a file in the folder. The words go to `rt try`, which works in the repository
-    `top`."""
+def module_of(name, folder, top, *words):
+    """The module of a program of the repository `top`, as a file in the folder. The words go to `rt try`."""
     kept = f"{folder}/kept.bc"
     kit_beside(f"{folder}/kit", kept)
     pipes = {"stdin": subprocess.DEVNULL, "stdout": subprocess.PIPE, "stderr": subprocess.PIPE}
@@ -164,6 +168,14 @@ def module_of(name, folder, *words, top=TOP):
 def sources_in_tests(name):
     """The sources of a program in tests/. `rt ci` would refuse them as .rt files."""
     return sorted(glob.glob(f"{TOP}/tests/{name}/*.rt.txt"))
+
+
+def tests():
+    """The tests of `test_runs`, each by its module and its name."""
+    for path in sources_in_tests("test_runs"):
+        with open(path, encoding="utf-8") as file:
+            for test in TEST.finditer(file.read()):
+                yield f"{os.path.basename(path).removesuffix('.rt.txt')}::{test[1]}"
 
 
 def copy_sources(top):
@@ -181,35 +193,32 @@ def copy_sources(top):
 
 
 def name_tests(folder):
-    """Makes the tests of a program functions like others, and writes a file that runs each of them by its name."""
-    arms = ""
-    for path in sorted(glob.glob(f"{folder}/*.rt")):
-        module = os.path.basename(path).removesuffix(".rt")
-        for name, _ in TEST.findall(changed(path, lambda text: text)):
-            arms += f'        "{module}::{name}" => crate::{module}::{name}(rt, alloc),\n'
-        changed(path, lambda text: TEST.sub(as_function, text))
-    head = TEST_HEAD.format(name="run_named").replace("(rt", "(name: &str, rt")
+    """Makes the tests in these sources functions like others, and writes the file that runs each by its name."""
+    for path in glob.glob(f"{folder}/*.rt"):
+        change(path, lambda text: TEST.sub(as_function, text))
+    arms = "".join(f'        "{test}" => crate::{test}(rt, alloc),\n' for test in tests())
+    taker = TAKER.format(name="run_named", more="name: &str,\n    ")
     with open(f"{folder}/all.rt", "w", encoding="utf-8") as file:
-        file.write(ALL.format(head=head, arms=arms))
+        file.write(ALL.format(taker=taker, arms=arms))
 
 
 def as_function(test):
     """A test as a function like others."""
     body = test[2].replace("&rt", "rt").replace("rt.alloc()", "alloc")
-    return f"{TEST_HEAD.format(name=test[1])} {body}"
+    return f"{TAKER.format(name=test[1], more='')} {body}"
 
 
-def changed(path, change):
-    """The text of a file once it is changed."""
+def change(path, changed):
+    """Changes the text of a file."""
     with open(path, encoding="utf-8") as file:
-        text = change(file.read())
+        text = changed(file.read())
     with open(path, "w", encoding="utf-8") as file:
         file.write(text)
-    return text
 
 
 def as_module(text, name):
-    """The text of a program's file in a module of this name: without its `main`, and with the paths of its new place."""
+    """The text of a program's file in a module of this name: without its `main`, and with the paths of its new
+    place."""
     text = text.replace("#![tactic(auto)]\n", "").replace("crate::", f"crate::{name}::")
     return re.sub(r"(?ms)^fn main\(.*?^}\n", "", text)
 
@@ -224,7 +233,7 @@ def copy_joined(joined, top):
     for name in names:
         shutil.copytree(f"{top}/crates/{name}/src", f"{root}/{name}")
         for path in glob.glob(f"{root}/{name}/**/*.rt", recursive=True):
-            changed(path, lambda text: as_module(text, name))
+            change(path, functools.partial(as_module, name=name))
         shutil.move(f"{root}/{name}/main.rt", f"{root}/{name}.rt")
     libraries = sorted({library for name in names for library in libraries_of()[name]})
     with open(f"{top}/crates.txt", "a", encoding="utf-8") as file:
@@ -263,7 +272,7 @@ def build_object(name, calls, out):
     clang = f"{kit()}/toolchain/bin/clang"
     with tempfile.TemporaryDirectory() as folder:
         copy_with_tests(name, calls, f"{folder}/copy")
-        module = module_of(name, folder, "--test", top=f"{folder}/copy")
+        module = module_of(name, folder, f"{folder}/copy", "--test")
         subprocess.run([clang, "-S", "-emit-llvm", "-Xclang", "-disable-llvm-passes", "-x", "ir", module, "-o",
                         f"{folder}/module.ll"], check=True)
         with open(f"{folder}/module.ll", encoding="utf-8") as file:
@@ -287,13 +296,13 @@ def linked(objects, out):
     subprocess.run([f"{whole}/toolchain/bin/ld.lld", *words, *before, *objects, *libraries, *after], check=True)
 
 
-def build(name, out, level="-O1", top=TOP):
+def build(name, out, top, level="-O1"):
     """Builds the program of a crate of the repository `top` as the file `out`. Without optimization (-O0), it builds
     sooner and runs 50 to 100 times slower."""
     need_toolchain(name)
     os.makedirs(os.path.dirname(os.path.abspath(out)), exist_ok=True)
     with tempfile.TemporaryDirectory() as folder:
-        module = module_of(name, folder, top=top)
+        module = module_of(name, folder, top)
         compiled = watched("step 2 of 2, optimizing",
                            [f"{kit()}/toolchain/bin/clang", *FLAGS, level, module, "-o", f"{folder}/program.o"])
         compiled.check_returncode()
@@ -362,7 +371,7 @@ def build_joined(joined, names):
     """Builds programs as one, which has their names."""
     with tempfile.TemporaryDirectory() as folder:
         copy_joined(joined, f"{folder}/copy")
-        build(joined, f"{TOP}/.built/{joined}", top=f"{folder}/copy")
+        build(joined, f"{TOP}/.built/{joined}", f"{folder}/copy")
     for name in names:
         beside = f"{TOP}/.built/{name}.{os.getpid()}"
         os.link(f"{TOP}/.built/{joined}", beside)
@@ -404,10 +413,14 @@ def main():
         build_object(*words[1:])
     elif words[:1] == ["--keep"] and len(words) > 1:
         leave_sudo()
-        for name in words[1:]:
-            print(kept(name))
+        with concurrent.futures.ThreadPoolExecutor(len(words)) as pool:
+            for program in pool.map(kept, words[1:]):
+                print(program)
     elif len(words) in (2, 3):
-        build(*words)
+        name, out, *level = words
+        with tempfile.TemporaryDirectory() as folder:
+            copy_sources(f"{folder}/copy")
+            build(name, out, f"{folder}/copy", *level)
     else:
         sys.exit(__doc__)
 

@@ -22,7 +22,7 @@ sys.path.insert(0, HERE)
 
 from sweep import built_library
 
-TEST = "tests::turns::segments_sent_twice_are_explained"
+TEST = "turns::segments_sent_twice_are_explained"
 
 # What the test prints if memory ran out elsewhere.
 ENDED = ("no books", "out of memory", "another answer")
