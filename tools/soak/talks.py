@@ -31,7 +31,7 @@ def main():
     failed = 0
     for first in range(given.first, given.first + given.count, TALKS):
         count = min(TALKS, given.first + given.count - first)
-        done = subprocess.run([program, "talks", str(first), str(count)], stdout=subprocess.PIPE, text=True, check=False)
+        done = subprocess.run([program, "talks", str(first), str(count)], stdout=subprocess.PIPE, text=True)
         told = done.stdout.splitlines()
         failed += done.returncode != 0 or len(told) != 1
         print(f"seeds {first} to {first + count - 1}:", *told or ["the program did not end"], sep="\n    ", flush=True)
