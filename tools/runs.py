@@ -52,7 +52,7 @@ def fault_of(run):
         return f"it takes more than {LIMIT} seconds"
     if done.returncode == 0 and done.stdout == run.wanted:
         return None
-    return f"status {done.returncode}, and it printed\n{done.stdout}{done.stderr}"
+    return f"status {done.returncode}, and it printed\n{done.stdout}{done.stderr}".rstrip()
 
 
 def main():

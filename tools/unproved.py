@@ -189,7 +189,8 @@ def copy_sources(top):
         name, file = os.path.relpath(path, f"{TOP}/tests").split(os.sep)
         os.makedirs(f"{top}/crates/{name}/src", exist_ok=True)
         shutil.copy(path, f"{top}/crates/{name}/src/{file.removesuffix('.txt')}")
-    name_tests(f"{top}/crates/test_runs/src")
+    if os.path.isdir(f"{top}/crates/test_runs"):
+        name_tests(f"{top}/crates/test_runs/src")
 
 
 def name_tests(folder):
