@@ -2,9 +2,13 @@
 """The cases in examples/, and those that `rt ci` gives to `tcpwit`, are those that the program test_cases checks."""
 import os
 import re
+import sys
 import unittest
 
 TOP = os.path.dirname(os.path.dirname(os.path.abspath(__file__)))
+sys.path.insert(0, f"{TOP}/tools")
+import rule_names  # noqa: E402
+
 CHECKED = f"{TOP}/crates/test_cases/data"
 # The name of a copy, if it isn't that of the example.
 COPIES = {
@@ -59,6 +63,11 @@ class GateCases(unittest.TestCase):
         self.assertGreaterEqual(len(cases), 40)
         for version in range(1, 7):
             self.assertTrue(any(case.startswith(b"trace %d\n" % version) for case in cases), version)
+
+    def test_each_rule_has_one(self):
+        rules = rule_names.rules_in(rule_names.read(rule_names.SOURCE), rule_names.read(rule_names.NUMBERS))
+        found = {line.split()[-1] for line in read(f"{TOP}/crates/tcpwit/stdout").splitlines()}
+        self.assertEqual([rule.name for rule in rules if rule.name not in found], [])
 
 
 if __name__ == "__main__":
