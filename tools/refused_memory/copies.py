@@ -47,9 +47,10 @@ def told(answer):
     status, text = answer
     if status == 0:
         return "copy"
-    # A false assertion aborts the test.
+    # A false assertion aborts the test. Without memory for its words, the program doesn't begin one.
     is_told = any(f'left: "{word}"' in text for word in ENDED)
-    return "ended" if status == -signal.SIGABRT and is_told else None
+    is_ended = status == -signal.SIGABRT and is_told or (status, text) == (1, "Error: Kind(OutOfMemory)\n")
+    return "ended" if is_ended else None
 
 
 def main():
