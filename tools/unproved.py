@@ -9,8 +9,8 @@ NAME is a crate with a `main`, or a program in tests/, and OUT the file of the p
 library, CALLS a file of tests that call each function that it exports, and OUT an object file with these functions.
 With --keep, each program is built as `./tcpwit` builds it, unless a current one exists, and its path is printed. Since
 `tcpwit` and `tcpwit_lab` share most of their code, --keep builds both as one program, which has two names and chooses
-by its name, and so it builds the programs in tests/. It builds both at the same time if it has to. The status is 127 if
-there is no program and none can be built.
+by its name. So it does with the programs in tests/, at the same time. The status is 127 if there is no program and none
+can be built.
 
 `rt try` builds a module of the whole program, compiles and runs it, and keeps nothing. This script takes the module
 that `rt try` passes to its compiler, and compiles and links it with the toolchain's own tools. The module has a
