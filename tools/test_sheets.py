@@ -1,5 +1,5 @@
 #!/usr/bin/python3
-"""Tests that each sentence that the code writes by `Sheet::say` has a number for each of its `{}`. The compiler doesn't."""
+"""Tests that each sentence that the code writes by `Sheet::say` has a number for each `{}`. The compiler doesn't."""
 import glob
 import os
 import re

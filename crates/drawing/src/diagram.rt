@@ -3,7 +3,7 @@
 use crate::callers::{Callers, Open};
 use crate::fates::{Fate, Fates};
 use crate::frame::Frame;
-use crate::labels::{AnswerLabel, CallLabel, Milliseconds};
+use crate::labels::{Milliseconds, push_answer, push_call};
 use crate::layout::{ARRIVING, BASE, MOST_BARS, ROW, SENT};
 use crate::overdue::{Overdue, debtor};
 use crate::picture::{Point, at, dot, line};
@@ -16,7 +16,9 @@ use plain_words::Sheet;
 use replayed::{Case, Refusal};
 use segment::Segment;
 use std::alloc::Global;
+use std::collections::BTreeMap;
 use std::fmt;
+use std::mem::replace;
 
 // A picture that is drawn, and what is known of the case so far.
 #[derive(Drop)]
@@ -94,7 +96,8 @@ impl Drawing {
         for line in case.trace.lines.as_slice() {
             self.line(line)?;
         }
-        self.open_calls()
+        self.open_calls();
+        Ok(())
     }
 
     fn line(&mut self, line: &Line) -> Result<(), OutOfMemory> {
@@ -137,7 +140,9 @@ impl Drawing {
     // A call beside its host.
     fn call(&mut self, line: &Line, call: &Call) -> Result<(), OutOfMemory> {
         let host = self.callers.begin(line, call)?;
-        self.words_of_call(line.number, host, line.thread, &CallLabel(call))
+        let mut words = Sheet::new(self.alloc);
+        push_call(&mut words, call);
+        self.words_of_call(line.number, host, line.thread, &words)
     }
 
     // The bar of a call, and its answer.
@@ -146,8 +151,9 @@ impl Drawing {
             return Ok(());
         };
         self.bar(thread, open, number)?;
-        let opens = open.opens;
-        self.words_of_call(number, open.host, thread, &AnswerLabel { answer, opens })
+        let mut words = Sheet::new(self.alloc);
+        push_answer(&mut words, answer, open.opens);
+        self.words_of_call(number, open.host, thread, &words)
     }
 
     // What a thread calls or gets, if that line is drawn. The thread is named if its bar isn't its own.
@@ -156,7 +162,7 @@ impl Drawing {
         number: u64,
         host: Host,
         thread: u32,
-        words: &impl fmt::Display,
+        words: &Sheet,
     ) -> Result<(), OutOfMemory> {
         if !self.range.has(number) {
             return Ok(());
@@ -171,15 +177,13 @@ impl Drawing {
     }
 
     // The bars of calls that have no answer.
-    fn open_calls(&mut self) -> Result<(), OutOfMemory> {
-        let mut left = Vec::new(self.alloc);
-        for (thread, open) in self.callers.open.iter() {
-            left.push((*thread, *open))?;
-        }
+    fn open_calls(&mut self) {
+        let to = self.range.to.saturating_add(1);
+        let left = replace(&mut self.callers.open, BTreeMap::new(self.alloc));
         for (thread, open) in left.iter() {
-            self.bar(*thread, *open, self.range.to.saturating_add(1))?;
+            let done = self.bar(*thread, *open, to);
+            self.frame.shapes.note(done);
         }
-        Ok(())
     }
 
     // The bar of a call, with the dot of its effect.
@@ -214,15 +218,17 @@ impl Drawing {
     // A segment that is sent: its label, and its arrow, unless that is drawn where the segment is received.
     fn draw_sent(&mut self, number: u64, host: Host, wire: &Wire) -> Result<(), OutOfMemory> {
         self.segment(number, host, host, &wire.seg)?;
-        match self.fates.copied.get(&number).copied() {
-            Some(copy) if self.range.has(copy) => {}
-            Some(copy) => self.stub(self.fates.received(copy), number, host),
-            None if self.frame.hosts.is_half => {
-                let (here, peer) = (self.end(number, host), self.end(number, host.other()));
-                let fate = self.fates.sent(number);
-                self.frame.arrow(fate, lower(here), lower(peer));
-            }
-            None => self.stub(self.fates.sent(number), number, host),
+        let copy = self.fates.copied.get(&number).copied();
+        let fate = match copy {
+            Some(copy) if self.range.has(copy) => return Ok(()),
+            Some(copy) => self.fates.received(copy),
+            None => self.fates.sent(number),
+        };
+        if copy.is_none() && self.frame.hosts.is_half {
+            let (here, peer) = (self.end(number, host), self.end(number, host.other()));
+            self.frame.arrow(fate, lower(here), lower(peer));
+        } else {
+            self.stub(fate, number, host);
         }
         Ok(())
     }

@@ -2,7 +2,7 @@
 
 use crate::callers::Callers;
 use crate::fates::Fate;
-use crate::labels::{Length, RefusalWords};
+use crate::labels::{Length, push_refusal};
 use crate::layout::{
     BAR, BASE, DIGIT, ENTRY, Hosts, KEY, LETTER, MARGIN, MOST_BARS, MOST_PITCH, NAMES, PEER, ROW,
     SAMPLE, THREADS, TOP, ZERO,
@@ -92,17 +92,18 @@ impl Frame {
         case: &Case,
         callers: &Callers,
     ) -> Result<String, OutOfMemory> {
-        let refusal = format!(in self.alloc; "{}", RefusalWords(case.refusal()))?;
+        let mut refusal = Sheet::new(self.alloc);
+        push_refusal(&mut refusal, case.refusal());
         let mut out = Sheet::new(self.alloc);
-        self.write(&mut out, case, callers, refusal.as_str());
+        self.write(&mut out, case, callers, &refusal);
         drop(refusal);
         out.finish()
     }
 
-    fn write(&mut self, out: &mut Sheet, case: &Case, callers: &Callers, refusal: &str) {
+    fn write(&mut self, out: &mut Sheet, case: &Case, callers: &Callers, refusal: &Sheet) {
         self.name_threads(Host::Zero, callers);
         self.name_threads(Host::One, callers);
-        let places = self.places(callers, width_of(refusal));
+        let places = self.places(callers, width_of(refusal.len()));
         begin(out, places.width, self.rows.bottom.saturating_add(MARGIN));
         for fate in self.fates.as_slice() {
             style(out, fate.look());
@@ -111,7 +112,7 @@ impl Frame {
         self.push_columns(out, places);
         self.push_key(out, !callers.is_empty());
         if !matches!(case.refusal(), Refusal::Nowhere) {
-            self.push_refusal(out, places, refusal);
+            self.mark_refusal(out, places, refusal);
         }
         end(out);
     }
@@ -271,12 +272,12 @@ impl Frame {
     }
 
     // A red line, and below it what is refused.
-    fn push_refusal(&self, out: &mut Sheet, places: Places, words: &str) {
+    fn mark_refusal(&self, out: &mut Sheet, places: Places, words: &Sheet) {
         let middle = self.rows.refused;
         let y = middle.saturating_sub(6);
         let right = places.width.saturating_sub(MARGIN);
         line(out, "refused", at(MARGIN, y), at(right, y));
-        text(out, "no", at(MARGIN, middle.saturating_add(8)), &words);
+        text(out, "no", at(MARGIN, middle.saturating_add(8)), words);
     }
 }
 

@@ -147,9 +147,9 @@ pub(crate) fn text(out: &mut Sheet, class: &str, at: Point, words: &impl fmt::Di
     out.put("</text>\n");
 }
 
-/// The width of a label.
-pub(crate) fn width_of(words: &str) -> u64 {
-    (words.len() as u64).saturating_mul(LETTER)
+/// The width of a label with so many letters.
+pub(crate) fn width_of(letters: usize) -> u64 {
+    (letters as u64).saturating_mul(LETTER)
 }
 
 /// A column of texts, which is placed once its width is known.

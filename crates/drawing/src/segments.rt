@@ -62,8 +62,8 @@ impl SegmentLabels {
         Ok(())
     }
 
-    /// Writes the label of a segment that a host sends: its flags, what it carries, and what it acknowledges and offers,
-    /// if that changed. The ports are named if the host's last label was of another connection.
+    /// Writes the label of a segment that a host sends: its flags, what it carries, and what it acknowledges and
+    /// offers, if that changed. The ports are named if the host's last label was of another connection.
     pub(crate) fn label(
         &mut self,
         words: &mut Sheet,

@@ -1,12 +1,12 @@
 //! What cases contain, in plain words.
 //!
-//! Most of the types here print a part of a line: `write!(out, "{}", CallWords(&call))`. The verdicts don't depend on
-//! this crate. Each function is proved only to be safe and to return.
+//! Most of the types here print a part of a line: `out.show(&CallWords(&call))`, where `out` is a `Sheet`. The verdicts
+//! don't depend on this crate. Each function is proved only to be safe and to return.
 //!
 //! - `shown`: bytes of a text, escaped; the line that reports a text's fault
 //! - `words`: hosts, flags, calls and answers; `events`: segments, lines and steps
 //! - `numbers`: numbers on the wire as positions
-//! - `sheet`: what is written in pieces
+//! - `sheet`: a text that is written in pieces
 //! - `rules`: what each rule refuses, its usual causes, and its sections of RFCs; `causes`: what may be known at a step
 #![tactic(auto)]
 

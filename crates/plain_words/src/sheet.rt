@@ -1,4 +1,4 @@
-//! What is written in pieces.
+//! A text that is written in pieces.
 
 use case_forms::OutOfMemory;
 use std::alloc::{AllocError, Global};
