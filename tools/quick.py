@@ -22,7 +22,7 @@ TESTS = [
     ("the runner", "stacks", [*UNIT, "tests.test_runner"]),
     ("tools", "tools", [*UNIT, "test_edits", "test_budgets", "test_examples", "test_runs", "test_unproved"]),
     ("pages", "tools", [*UNIT, "test_docs", "test_pictures"]),
-    ("rules", "tools", [*UNIT, "test_rules"]),
+    ("rules", "tools", [*UNIT, "test_rules", "test_sheets"]),
     ("schema", "tools", [*UNIT, "test_schema"]),
     ("names in pages", ".", ["tools/docs.py", "--names"]),
     ("columns", ".", ["tools/columns.py"]),

@@ -1,9 +1,9 @@
 //! A case as a picture: two hosts as lines, time downward, each segment an arrow.
 
 use crate::callers::{Callers, Open};
-use crate::fates::Fates;
+use crate::fates::{Fate, Fates};
 use crate::frame::Frame;
-use crate::labels::{AnswerLabel, CallLabel, Milliseconds};
+use crate::labels::{Milliseconds, push_answer, push_call};
 use crate::layout::{ARRIVING, BASE, MOST_BARS, ROW, SENT};
 use crate::overdue::{Overdue, debtor};
 use crate::picture::{Point, at, dot, line};
@@ -12,9 +12,13 @@ use crate::rows::{Marks, Rows};
 use crate::segments::SegmentLabels;
 use case_forms::{Answer, Call, Event, Host, Line, OutOfMemory, Timer, Wire};
 use line_fields::timer_name;
+use plain_words::Sheet;
 use replayed::{Case, Refusal};
+use segment::Segment;
 use std::alloc::Global;
+use std::collections::BTreeMap;
 use std::fmt;
+use std::mem::replace;
 
 // A picture that is drawn, and what is known of the case so far.
 #[derive(Drop)]
@@ -52,13 +56,11 @@ pub fn draw(alloc: Global, case: &Case, range: Range) -> Result<String, OutOfMem
         shown: None,
         labels: SegmentLabels::new(alloc, version),
         callers: Callers::new(alloc),
-        frame: Frame::new(alloc, case, rows)?,
+        frame: Frame::new(alloc, case, rows),
     };
-    drawing.lines(case)?;
-    drawing.overdue(overdue, debtor.map_or("", |debtor| debtor.debt.what))?;
-    let picture = drawing.frame.picture(case, &drawing.callers)?;
+    let picture = drawing.all(case, overdue, debtor.map_or("", |debtor| debtor.debt.what));
     drop(drawing);
-    Ok(picture)
+    picture
 }
 
 // The line after which something is refused. None: nothing is.
@@ -77,19 +79,32 @@ fn lower(point: Point) -> Point {
 }
 
 impl Drawing {
+    // Draws all, and returns the picture.
+    fn all(
+        &mut self,
+        case: &Case,
+        overdue: Option<Overdue>,
+        owed: &str,
+    ) -> Result<String, OutOfMemory> {
+        self.lines(case)?;
+        self.overdue(overdue, owed);
+        self.frame.picture(case, &self.callers)
+    }
+
     // Draws what the lines show.
     fn lines(&mut self, case: &Case) -> Result<(), OutOfMemory> {
         for line in case.trace.lines.as_slice() {
             self.line(line)?;
         }
-        self.open_calls()
+        self.open_calls();
+        Ok(())
     }
 
     fn line(&mut self, line: &Line) -> Result<(), OutOfMemory> {
         let number = line.number;
         let is_drawn = self.range.has(number);
         if is_drawn {
-            self.when(line)?;
+            self.when(line);
         }
         self.labels.read(line)?;
         match &line.event {
@@ -97,41 +112,37 @@ impl Drawing {
             Event::CallEnd(answer) => self.answer(number, line.thread, answer),
             Event::Sent(host, wire) if is_drawn => self.draw_sent(number, *host, wire),
             Event::Came(host, wire) if is_drawn => self.draw_arrival(number, *host, wire),
-            Event::Expired(host, _, _, timer) if is_drawn => self.draw_expiry(
-                number, *host, *timer,
-            ),
+            Event::Expired(host, _, _, timer) if is_drawn => {
+                self.draw_expiry(number, *host, *timer);
+                Ok(())
+            }
             Event::Sent(..) | Event::Came(..) | Event::Expired(..) => Ok(()),
         }
     }
 
     // A line's number, and its time if it isn't that of the line above.
-    fn when(&mut self, line: &Line) -> Result<(), OutOfMemory> {
+    fn when(&mut self, line: &Line) {
         let y = self.frame.rows.y(line.number).saturating_add(BASE);
-        self.frame.numbers.add("number", y, &line.number)?;
+        self.frame.numbers.add("number", y, &line.number);
         if self.shown != Some(line.moment) {
             self.shown = Some(line.moment);
             let passed = u128::from(line.moment.saturating_sub(self.start));
-            self.frame.times.add("time", y, &Milliseconds(passed))?;
+            self.frame.times.add("time", y, &Milliseconds(passed));
         }
-        Ok(())
     }
 
     // A text beside a host, outside.
-    fn beside(
-        &mut self,
-        number: u64,
-        host: Host,
-        class: &str,
-        words: &impl fmt::Display,
-    ) -> Result<(), OutOfMemory> {
+    fn beside(&mut self, number: u64, host: Host, class: &str, words: &impl fmt::Display) {
         let y = self.frame.rows.y(number).saturating_add(BASE);
-        self.frame.labels(host).add(class, y, words)
+        self.frame.labels(host).add(class, y, words);
     }
 
     // A call beside its host.
     fn call(&mut self, line: &Line, call: &Call) -> Result<(), OutOfMemory> {
         let host = self.callers.begin(line, call)?;
-        self.words_of_call(line.number, host, line.thread, &CallLabel(call))
+        let mut words = Sheet::new(self.alloc);
+        push_call(&mut words, call);
+        self.words_of_call(line.number, host, line.thread, &words)
     }
 
     // The bar of a call, and its answer.
@@ -140,8 +151,9 @@ impl Drawing {
             return Ok(());
         };
         self.bar(thread, open, number)?;
-        let opens = open.opens;
-        self.words_of_call(number, open.host, thread, &AnswerLabel { answer, opens })
+        let mut words = Sheet::new(self.alloc);
+        push_answer(&mut words, answer, open.opens);
+        self.words_of_call(number, open.host, thread, &words)
     }
 
     // What a thread calls or gets, if that line is drawn. The thread is named if its bar isn't its own.
@@ -150,33 +162,28 @@ impl Drawing {
         number: u64,
         host: Host,
         thread: u32,
-        words: &impl fmt::Display,
+        words: &Sheet,
     ) -> Result<(), OutOfMemory> {
         if !self.range.has(number) {
             return Ok(());
         }
         if self.callers.place(host, thread)? < MOST_BARS {
-            self.beside(number, host, "call", words)
+            self.beside(number, host, "call", words);
         } else {
-            self.beside(
-                number,
-                host,
-                "call",
-                &format_args!("thread {thread}: {words}"),
-            )
+            let words = format_args!("thread {thread}: {words}");
+            self.beside(number, host, "call", &words);
         }
+        Ok(())
     }
 
     // The bars of calls that have no answer.
-    fn open_calls(&mut self) -> Result<(), OutOfMemory> {
-        let mut left = Vec::new(self.alloc);
-        for (thread, open) in self.callers.open.iter() {
-            left.push((*thread, *open))?;
-        }
+    fn open_calls(&mut self) {
+        let to = self.range.to.saturating_add(1);
+        let left = replace(&mut self.callers.open, BTreeMap::new(self.alloc));
         for (thread, open) in left.iter() {
-            self.bar(*thread, *open, self.range.to.saturating_add(1))?;
+            let done = self.bar(*thread, *open, to);
+            self.frame.shapes.note(done);
         }
-        Ok(())
     }
 
     // The bar of a call, with the dot of its effect.
@@ -192,91 +199,112 @@ impl Drawing {
         let place = self.callers.place(host, thread)?;
         let x = self.frame.hosts.bar(host, place);
         let (top, bottom) = (self.frame.rows.y(from), self.frame.rows.y(to));
-        line(&mut self.frame.shapes, "bar", at(x, top), at(x, bottom))?;
-        let effect = self.fates.effects.get(&from).copied();
-        if let Some(before) = effect.filter(|before| self.range.has(*before)) {
+        line(&mut self.frame.shapes, "bar", at(x, top), at(x, bottom));
+        if let Some(before) = self.drawn(self.fates.effects.get(&from)) {
             let y = self.frame.rows.y(before).saturating_add(ROW / 2);
-            dot(&mut self.frame.shapes, "#337", at(x, y.min(bottom)))?;
+            dot(&mut self.frame.shapes, "#337", at(x, y.min(bottom)));
         }
         Ok(())
     }
 
+    // The line, if it is drawn.
+    fn drawn(&self, line: Option<&u64>) -> Option<u64> {
+        match line {
+            Some(line) if self.range.has(*line) => Some(*line),
+            _ => None,
+        }
+    }
+
     // A segment that is sent: its label, and its arrow, unless that is drawn where the segment is received.
     fn draw_sent(&mut self, number: u64, host: Host, wire: &Wire) -> Result<(), OutOfMemory> {
-        let label = self.labels.label(host, &wire.seg)?;
-        self.segment(number, host, &label)?;
-        let y = self.frame.rows.y(number);
-        let from = at(self.frame.hosts.inside(host, 0), y);
-        let stub = at(
-            self.frame.hosts.inside(host, SENT),
-            y.saturating_add(ROW / 2),
-        );
+        self.segment(number, host, host, &wire.seg)?;
         let copy = self.fates.copied.get(&number).copied();
-        if let Some(copy) = copy {
-            if self.range.has(copy) {
-                return Ok(());
-            }
-            let fate = self.fates.received(copy);
-            return self.frame.arrow(fate, from, stub);
+        let fate = match copy {
+            Some(copy) if self.range.has(copy) => return Ok(()),
+            Some(copy) => self.fates.received(copy),
+            None => self.fates.sent(number),
+        };
+        if copy.is_none() && self.frame.hosts.is_half {
+            let (here, peer) = (self.end(number, host), self.end(number, host.other()));
+            self.frame.arrow(fate, lower(here), lower(peer));
+        } else {
+            self.stub(fate, number, host);
         }
-        let fate = self.fates.sent(number);
-        if self.frame.hosts.is_half {
-            let peer = at(self.frame.hosts.inside(host.other(), 0), y);
-            return self.frame.arrow(fate, lower(from), lower(peer));
-        }
-        self.frame.arrow(fate, from, stub)
+        Ok(())
+    }
+
+    // The arrow of a segment that is sent, and not received in a line that is drawn.
+    fn stub(&mut self, fate: Fate, number: u64, host: Host) {
+        let from = self.end(number, host);
+        let to = at(
+            self.frame.hosts.inside(host, SENT),
+            from.y.saturating_add(ROW / 2),
+        );
+        self.frame.arrow(fate, from, to);
+    }
+
+    // Where a line is at a host.
+    fn end(&self, number: u64, host: Host) -> Point {
+        at(self.frame.hosts.inside(host, 0), self.frame.rows.y(number))
     }
 
     // The arrow of a segment that is received. It has its label here if the line that it copies isn't drawn.
     fn draw_arrival(&mut self, number: u64, host: Host, wire: &Wire) -> Result<(), OutOfMemory> {
-        let fate = self.fates.received(number);
-        let y = self.frame.rows.y(number);
-        let to = at(self.frame.hosts.inside(host, 0), y);
-        let copied = self.fates.copies.get(&number).copied();
-        if let Some(copied) = copied.filter(|copied| self.range.has(*copied)) {
-            let y = self.frame.rows.y(copied);
-            let from = at(self.frame.hosts.inside(host.other(), 0), y);
-            return self.frame.arrow(fate, from, to);
+        let (fate, to) = (self.fates.received(number), self.end(number, host));
+        if let Some(copied) = self.drawn(self.fates.copies.get(&number)) {
+            let from = self.end(copied, host.other());
+            self.frame.arrow(fate, from, to);
+            return Ok(());
         }
-        let label = self.labels.label(host.other(), &wire.seg)?;
-        self.segment(number, host, &label)?;
+        self.segment(number, host, host.other(), &wire.seg)?;
         if self.frame.hosts.is_half {
-            let peer = at(self.frame.hosts.inside(host.other(), 0), y);
-            return self.frame.arrow(fate, lower(peer), lower(to));
+            let peer = self.end(number, host.other());
+            self.frame.arrow(fate, lower(peer), lower(to));
+        } else {
+            let x = self.frame.hosts.inside(host, ARRIVING);
+            self.frame
+                .arrow(fate, at(x, to.y.saturating_sub(ROW / 2)), to);
         }
-        let stub = at(
-            self.frame.hosts.inside(host, ARRIVING),
-            y.saturating_sub(ROW / 2),
-        );
-        self.frame.arrow(fate, stub, to)
+        Ok(())
     }
 
-    // The label of a segment: in a half case above its arrow, else beside the host.
-    fn segment(&mut self, number: u64, host: Host, label: &String) -> Result<(), OutOfMemory> {
+    // The label of a segment of a sender: in a half case above its arrow, else beside the host.
+    fn segment(
+        &mut self,
+        number: u64,
+        host: Host,
+        sender: Host,
+        seg: &Segment,
+    ) -> Result<(), OutOfMemory> {
+        let mut label = Sheet::new(self.alloc);
+        let done = self.labels.label(&mut label, sender, seg);
         if self.frame.hosts.is_half {
             let y = self.frame.rows.y(number);
-            return self.frame.middle.add("segment", y, label);
+            self.frame.middle.add("segment", y, &label);
+        } else {
+            self.beside(number, host, "segment", &label);
         }
-        self.beside(number, host, "segment", label)
+        drop(label);
+        done
     }
 
     // A timer at its host.
-    fn draw_expiry(&mut self, number: u64, host: Host, timer: Timer) -> Result<(), OutOfMemory> {
+    fn draw_expiry(&mut self, number: u64, host: Host, timer: Timer) {
         let name = timer_name(timer);
-        self.beside(number, host, "timer", &format_args!("timer {name} expires"))
+        self.beside(number, host, "timer", &format_args!("timer {name} expires"));
     }
 
     // A red dot at the host when something was due, and what that is.
-    fn overdue(&mut self, overdue: Option<Overdue>, owed: &str) -> Result<(), OutOfMemory> {
+    fn overdue(&mut self, overdue: Option<Overdue>, owed: &str) {
         let Some(Overdue { host, due, .. }) = overdue else {
-            return Ok(());
+            return;
         };
         let (y, x) = (self.frame.rows.due, self.frame.hosts.inside(host, 0));
-        dot(&mut self.frame.shapes, "#d00", at(x, y))?;
+        dot(&mut self.frame.shapes, "#d00", at(x, y));
         let due = Milliseconds(due.saturating_sub(u128::from(self.start)));
-        let words = format!(in self.alloc; "due by {due}: {owed}")?;
+        let words = format_args!("due by {due}: {owed}");
         self.frame
             .labels(host)
-            .add("no", y.saturating_add(BASE), &words)
+            .add("no", y.saturating_add(BASE), &words);
     }
 }

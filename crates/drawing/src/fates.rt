@@ -31,16 +31,16 @@ pub(crate) enum Fate {
 impl Fate {
     /// The class of its arrow, and its look.
     pub(crate) fn look(self) -> Look {
-        let (class, color, dashes, meaning) = match self {
-            Fate::NotReached => ("unreached", "#bbb", "", "not reached"),
-            Fate::Unrecorded => ("unrecorded", "#446", "", "peer not recorded"),
-            Fate::InFlight => ("flying", "#446", "", "in flight"),
-            Fate::Lost => ("lost", "#a22", "", "lost"),
-            Fate::Waits => ("waits", "#36c", "", "waits"),
-            Fate::Processed => ("processed", "#186", "", "processed"),
-            Fate::NotKept => ("unkept", "#186", "2 3", "not kept"),
-            Fate::Dropped => ("dropped", "#888", "5 3", "dropped"),
-            Fate::Reset => ("reset", "#c60", "", "answered with a reset"),
+        let &(class, color, dashes, meaning) = match self {
+            Fate::NotReached => &("unreached", "#bbb", "", "not reached"),
+            Fate::Unrecorded => &("unrecorded", "#446", "", "peer not recorded"),
+            Fate::InFlight => &("flying", "#446", "", "in flight"),
+            Fate::Lost => &("lost", "#a22", "", "lost"),
+            Fate::Waits => &("waits", "#36c", "", "waits"),
+            Fate::Processed => &("processed", "#186", "", "processed"),
+            Fate::NotKept => &("unkept", "#186", "2 3", "not kept"),
+            Fate::Dropped => &("dropped", "#888", "5 3", "dropped"),
+            Fate::Reset => &("reset", "#c60", "", "answered with a reset"),
         };
         Look {
             class,

@@ -2,7 +2,7 @@
 
 use crate::callers::Callers;
 use crate::fates::Fate;
-use crate::labels::{Length, RefusalWords};
+use crate::labels::{Length, push_refusal};
 use crate::layout::{
     BAR, BASE, DIGIT, ENTRY, Hosts, KEY, LETTER, MARGIN, MOST_BARS, MOST_PITCH, NAMES, PEER, ROW,
     SAMPLE, THREADS, TOP, ZERO,
@@ -13,9 +13,10 @@ use crate::picture::{
 };
 use crate::rows::{Gap, Rows};
 use case_forms::{Event, Host, OutOfMemory};
-use plain_words::HostName;
+use plain_words::{HostName, Sheet};
 use replayed::{Case, Refusal};
-use std::alloc::Global;
+use std::alloc::{AllocError, Global};
+use std::fmt;
 
 /// The parts of a picture while it is drawn.
 #[derive(Drop)]
@@ -30,7 +31,7 @@ pub(crate) struct Frame {
     /// The labels of the segments of a half case, above their arrows.
     pub middle: Column,
     /// Bars, arrows and dots.
-    pub shapes: String,
+    pub shapes: Sheet,
     /// The fates that occur.
     fates: Vec<Fate>,
     /// Whether the case has a witness. A trace alone reaches nothing.
@@ -52,21 +53,20 @@ struct Places {
 
 impl Frame {
     /// An empty picture of a case, with these rows.
-    pub(crate) fn new(alloc: Global, case: &Case, rows: Rows) -> Result<Frame, OutOfMemory> {
-        let hosts = hosts_of(alloc, case)?;
-        Ok(Frame {
+    pub(crate) fn new(alloc: Global, case: &Case, rows: Rows) -> Frame {
+        Frame {
             alloc,
-            hosts,
+            hosts: hosts_of(case),
             rows,
             numbers: Column::new(alloc, DIGIT),
             times: Column::new(alloc, DIGIT),
             zero: Column::new(alloc, LETTER),
             one: Column::new(alloc, LETTER),
             middle: Column::new(alloc, LETTER),
-            shapes: String::new(alloc),
+            shapes: Sheet::new(alloc),
             fates: Vec::new(alloc),
             has_witness: !case.texts.witness.is_empty(),
-        })
+        }
     }
 
     /// The labels beside a host.
@@ -78,11 +78,12 @@ impl Frame {
     }
 
     /// Draws the arrow of a segment with this fate.
-    pub(crate) fn arrow(&mut self, fate: Fate, from: Point, to: Point) -> Result<(), OutOfMemory> {
+    pub(crate) fn arrow(&mut self, fate: Fate, from: Point, to: Point) {
         if !self.fates.as_slice().contains(&fate) {
-            self.fates.push(fate)?;
+            let done = self.fates.push(fate);
+            self.shapes.note(done.map_err(|_| AllocError));
         }
-        push_arrow(&mut self.shapes, fate, from, to)
+        push_arrow(&mut self.shapes, fate, from, to);
     }
 
     /// The whole picture.
@@ -91,27 +92,29 @@ impl Frame {
         case: &Case,
         callers: &Callers,
     ) -> Result<String, OutOfMemory> {
-        self.name_threads(Host::Zero, callers)?;
-        self.name_threads(Host::One, callers)?;
-        let refusal = format!(in self.alloc; "{}", RefusalWords(case.refusal()))?;
-        let places = self.places(callers, width_of(refusal.as_str()));
-        let mut out = String::new(self.alloc);
-        begin(
-            &mut out,
-            places.width,
-            self.rows.bottom.saturating_add(MARGIN),
-        )?;
+        let mut refusal = Sheet::new(self.alloc);
+        push_refusal(&mut refusal, case.refusal());
+        let mut out = Sheet::new(self.alloc);
+        self.write(&mut out, case, callers, &refusal);
+        drop(refusal);
+        out.finish()
+    }
+
+    fn write(&mut self, out: &mut Sheet, case: &Case, callers: &Callers, refusal: &Sheet) {
+        self.name_threads(Host::Zero, callers);
+        self.name_threads(Host::One, callers);
+        let places = self.places(callers, width_of(refusal.len()));
+        begin(out, places.width, self.rows.bottom.saturating_add(MARGIN));
         for fate in self.fates.as_slice() {
-            style(&mut out, fate.look())?;
+            style(out, fate.look());
         }
-        self.push_hosts(&mut out, places)?;
-        self.push_columns(&mut out, places)?;
-        self.push_key(&mut out, !callers.is_empty())?;
+        self.push_hosts(out, places);
+        self.push_columns(out, places);
+        self.push_key(out, !callers.is_empty());
         if !matches!(case.refusal(), Refusal::Nowhere) {
-            self.push_refusal(&mut out, places, refusal.as_str())?;
+            self.mark_refusal(out, places, refusal);
         }
-        end(&mut out)?;
-        Ok(out)
+        end(out);
     }
 
     fn places(&self, callers: &Callers, refusal: u64) -> Places {
@@ -147,44 +150,45 @@ impl Frame {
     }
 
     // The numbers of a host's threads, above their bars.
-    fn name_threads(&mut self, host: Host, callers: &Callers) -> Result<(), OutOfMemory> {
+    fn name_threads(&mut self, host: Host, callers: &Callers) {
         let threads = callers.threads_of(host);
         if threads.bars() == 0 {
-            return Ok(());
+            return;
         }
-        self.labels(host).add("thread", THREADS, &"thread")?;
-        for (place, thread) in threads
-            .drawn
-            .as_slice()
-            .iter()
-            .take(MOST_BARS as usize)
-            .enumerate()
-        {
-            let x = self.hosts.bar(host, place as u64);
-            text(&mut self.shapes, "thread mid", at(x, THREADS), thread)?;
+        self.labels(host).add("thread", THREADS, &"thread");
+        let mut place: u64 = 0;
+        for thread in threads.drawn.as_slice() {
+            if place < MOST_BARS {
+                self.name_thread(host, place, thread);
+            }
+            place = place.saturating_add(1);
         }
         if MOST_BARS < threads.bars() {
-            let x = self.hosts.bar(host, MOST_BARS);
-            text(&mut self.shapes, "thread mid", at(x, THREADS), &"..")?;
+            self.name_thread(host, MOST_BARS, &"..");
         }
-        Ok(())
+    }
+
+    fn name_thread(&mut self, host: Host, place: u64, name: &impl fmt::Display) {
+        let x = self.hosts.bar(host, place);
+        text(&mut self.shapes, "thread mid", at(x, THREADS), name);
     }
 
     // The hosts, the bands where the clock jumps, and what is drawn at the hosts.
-    fn push_hosts(&self, out: &mut String, places: Places) -> Result<(), OutOfMemory> {
-        begin_group(out, "", places.hosts)?;
-        self.push_host(out, Host::Zero)?;
-        self.push_host(out, Host::One)?;
-        end_group(out)?;
+    fn push_hosts(&self, out: &mut Sheet, places: Places) {
+        begin_group(out, "", places.hosts);
+        self.push_host(out, Host::Zero);
+        self.push_host(out, Host::One);
+        end_group(out);
         for gap in self.rows.gaps.as_slice() {
-            band(out, gap.y.saturating_sub(ROW / 2), self.height_of(*gap))?;
+            band(out, gap.y.saturating_sub(ROW / 2), self.height_of(*gap));
         }
-        begin_group(out, "", places.hosts)?;
+        begin_group(out, "", places.hosts);
         for gap in self.rows.gaps.as_slice() {
-            self.push_pause(out, *gap)?;
+            self.push_pause(out, *gap, Host::Zero);
+            self.push_pause(out, *gap, Host::One);
         }
-        out.push_str(self.shapes.as_str())?;
-        end_group(out)
+        out.show(&self.shapes);
+        end_group(out);
     }
 
     // Whether this is the host that wasn't recorded.
@@ -193,15 +197,15 @@ impl Frame {
     }
 
     // A host's name, and its line.
-    fn push_host(&self, out: &mut String, host: Host) -> Result<(), OutOfMemory> {
+    fn push_host(&self, out: &mut Sheet, host: Host) {
         let x = self.hosts.inside(host, 0);
         let (top, bottom) = (TOP.saturating_sub(ROW), self.rows.bottom);
         if self.is_peer(host) {
-            text(out, "key mid", at(x, NAMES), &"peer (not recorded)")?;
-            line(out, "peer", at(x, top), at(x, bottom))
+            text(out, "key mid", at(x, NAMES), &"peer (not recorded)");
+            line(out, "peer", at(x, top), at(x, bottom));
         } else {
-            text(out, "name mid", at(x, NAMES), &HostName(host))?;
-            line(out, "host", at(x, top), at(x, bottom))
+            text(out, "name mid", at(x, NAMES), &HostName(host));
+            line(out, "host", at(x, top), at(x, bottom));
         }
     }
 
@@ -211,49 +215,45 @@ impl Frame {
         if has_deadline { 2 * ROW } else { ROW }
     }
 
-    // The lines of the hosts in a gap.
-    fn push_pause(&self, out: &mut String, gap: Gap) -> Result<(), OutOfMemory> {
+    // The line of a host in a gap.
+    fn push_pause(&self, out: &mut Sheet, gap: Gap, host: Host) {
         let top = gap.y.saturating_sub(ROW / 2);
         let bottom = top.saturating_add(self.height_of(gap));
-        for host in [Host::Zero, Host::One] {
-            let x = self.hosts.inside(host, 0);
-            let class = if self.is_peer(host) {
-                "peer pause"
-            } else {
-                "host pause"
-            };
-            line(out, class, at(x, top), at(x, bottom))?;
-        }
-        Ok(())
+        let x = self.hosts.inside(host, 0);
+        let class = if self.is_peer(host) {
+            "peer pause"
+        } else {
+            "host pause"
+        };
+        line(out, class, at(x, top), at(x, bottom));
     }
 
-    fn push_columns(&mut self, out: &mut String, places: Places) -> Result<(), OutOfMemory> {
+    fn push_columns(&mut self, out: &mut Sheet, places: Places) {
         for gap in self.rows.gaps.as_slice() {
             let y = gap.y.saturating_add(BASE);
-            self.times.add("gap", y, &Length(gap.length))?;
+            self.times.add("gap", y, &Length(gap.length));
         }
-        self.numbers.place(out, "left", places.numbers)?;
-        self.times.place(out, "left", places.times)?;
-        self.zero.place(out, "left", places.zero)?;
-        self.middle.place(out, "", places.middle)?;
-        self.one.place(out, "", places.one)
+        self.numbers.place(out, "left", places.numbers);
+        self.times.place(out, "left", places.times);
+        self.zero.place(out, "left", places.zero);
+        self.middle.place(out, "", places.middle);
+        self.one.place(out, "", places.one);
     }
 
     // The key, with the fates that occur, and a call if there are any.
-    fn push_key(&self, out: &mut String, has_calls: bool) -> Result<(), OutOfMemory> {
+    fn push_key(&self, out: &mut Sheet, has_calls: bool) {
         let mut x = MARGIN;
         let y = KEY.saturating_sub(BASE);
         if has_calls {
             let end = x.saturating_add(SAMPLE);
-            line(out, "bar", at(x, y), at(end, y))?;
-            dot(out, "#337", at(x.saturating_add(SAMPLE / 2), y))?;
-            x = push_meaning(out, x, CALL)?;
+            line(out, "bar", at(x, y), at(end, y));
+            dot(out, "#337", at(x.saturating_add(SAMPLE / 2), y));
+            x = push_meaning(out, x, CALL);
         }
         for fate in self.fates.as_slice() {
-            push_arrow(out, *fate, at(x, y), at(x.saturating_add(SAMPLE), y))?;
-            x = push_meaning(out, x, self.meaning_of(*fate))?;
+            push_arrow(out, *fate, at(x, y), at(x.saturating_add(SAMPLE), y));
+            x = push_meaning(out, x, self.meaning_of(*fate));
         }
-        Ok(())
     }
 
     fn meaning_of(&self, fate: Fate) -> &'static str {
@@ -272,24 +272,19 @@ impl Frame {
     }
 
     // A red line, and below it what is refused.
-    fn push_refusal(
-        &self,
-        out: &mut String,
-        places: Places,
-        words: &str,
-    ) -> Result<(), OutOfMemory> {
+    fn mark_refusal(&self, out: &mut Sheet, places: Places, words: &Sheet) {
         let middle = self.rows.refused;
         let y = middle.saturating_sub(6);
         let right = places.width.saturating_sub(MARGIN);
-        line(out, "refused", at(MARGIN, y), at(right, y))?;
-        text(out, "no", at(MARGIN, middle.saturating_add(8)), &words)
+        line(out, "refused", at(MARGIN, y), at(right, y));
+        text(out, "no", at(MARGIN, middle.saturating_add(8)), words);
     }
 }
 
 // What the key says of a bar with a dot.
 const CALL: &str = "call, and its effect";
 
-fn push_arrow(out: &mut String, fate: Fate, from: Point, to: Point) -> Result<(), OutOfMemory> {
+fn push_arrow(out: &mut Sheet, fate: Fate, from: Point, to: Point) {
     match fate {
         Fate::Lost => crossed(out, fate.look(), from, to),
         _ => arrow(out, fate.look(), from, to),
@@ -297,10 +292,10 @@ fn push_arrow(out: &mut String, fate: Fate, from: Point, to: Point) -> Result<()
 }
 
 // Writes what an entry of the key means. The answer is where the next entry begins.
-fn push_meaning(out: &mut String, x: u64, meaning: &str) -> Result<u64, OutOfMemory> {
+fn push_meaning(out: &mut Sheet, x: u64, meaning: &str) -> u64 {
     let text_at = x.saturating_add(SAMPLE + 2 * BASE);
-    text(out, "key", at(text_at, KEY), &meaning)?;
-    Ok(x.saturating_add(entry_width(meaning)))
+    text(out, "key", at(text_at, KEY), &meaning);
+    x.saturating_add(entry_width(meaning))
 }
 
 fn entry_width(meaning: &str) -> u64 {
@@ -309,19 +304,19 @@ fn entry_width(meaning: &str) -> u64 {
 }
 
 // The hosts of a case.
-fn hosts_of(alloc: Global, case: &Case) -> Result<Hosts, OutOfMemory> {
+fn hosts_of(case: &Case) -> Hosts {
     let mut greatest: u32 = 0;
     for line in case.trace.lines.as_slice() {
         if matches!(line.event, Event::CallBegin(_)) {
             greatest = greatest.max(line.thread);
         }
     }
-    let digits = format!(in alloc; "{greatest}")?.len() as u64;
-    Ok(Hosts {
+    let digits = u64::from(greatest.checked_ilog10().unwrap_or(0)).saturating_add(1);
+    Hosts {
         is_half: case.trace.header.version.is_half(),
         pitch: digits
             .saturating_mul(DIGIT)
             .saturating_add(BAR)
             .min(MOST_PITCH),
-    })
+    }
 }

@@ -1,46 +1,41 @@
 //! What is written beside an event.
 
 use case_forms::{Answer, Call, Label, NamedLine};
-use plain_words::{AnswerWords, CallWords, FlagWords, HostName, StepWords};
+use plain_words::{AnswerWords, CallWords, FlagWords, HostName, Sheet, StepWords};
 use replayed::Refusal;
 use std::fmt;
+use verdict::Rule;
 
-/// A call. No label names the host, which is beside it.
-#[derive(Clone, Copy)]
-pub(crate) struct CallLabel<'c>(pub &'c Call);
-
-impl fmt::Display for CallLabel<'_> {
-    fn fmt<W: fmt::Write>(&self, f: &mut fmt::Formatter<W>) -> fmt::Result {
-        match self.0 {
-            Call::Listen(_, port, backlog) => write!(f, "listen {port}, backlog {backlog}"),
-            Call::Connect(_, lport, rport) => write!(f, "open {lport} -> {rport}"),
-            Call::Await(_)
-            | Call::Accept(_)
-            | Call::Send(..)
-            | Call::Recv(..)
-            | Call::Shut(_)
-            | Call::Close(_)
-            | Call::Abort(_)
-            | Call::Status(_) => CallWords(self.0).fmt(f),
+/// Writes a call. No label names the host, which is beside it.
+pub(crate) fn push_call(out: &mut Sheet, call: &Call) {
+    match call {
+        Call::Listen(_, port, backlog) => out.say(
+            "listen {}, backlog {}",
+            &[u64::from(*port), u64::from(*backlog)],
+        ),
+        Call::Connect(_, lport, rport) => {
+            out.say("open {} -> {}", &[u64::from(*lport), u64::from(*rport)]);
         }
+        Call::Await(_)
+        | Call::Accept(_)
+        | Call::Send(..)
+        | Call::Recv(..)
+        | Call::Shut(_)
+        | Call::Close(_)
+        | Call::Abort(_)
+        | Call::Status(_) => out.show(&CallWords(call)),
     }
 }
 
-/// The answer of a call.
-#[derive(Clone, Copy)]
-pub(crate) struct AnswerLabel<'a> {
-    pub answer: &'a Answer,
-    /// Whether the call is `listen`, `open` or `accept`, which return a socket number.
-    pub opens: bool,
-}
-
-impl fmt::Display for AnswerLabel<'_> {
-    fn fmt<W: fmt::Write>(&self, f: &mut fmt::Formatter<W>) -> fmt::Result {
-        match self.answer {
-            Answer::Given(number) if self.opens => write!(f, "= socket {number}"),
-            Answer::Given(count) => write!(f, "= {count} bytes"),
-            Answer::Bytes(bytes) => write!(f, "= {} bytes", bytes.len()),
-            answer => write!(f, "={}", AnswerWords(answer)),
+/// Writes the answer of a call. `opens`: the call is `listen`, `open` or `accept`, which return a socket number.
+pub(crate) fn push_answer(out: &mut Sheet, answer: &Answer, opens: bool) {
+    match answer {
+        Answer::Given(number) if opens => out.say("= socket {}", &[u64::from(*number)]),
+        Answer::Given(count) => out.say("= {} bytes", &[u64::from(*count)]),
+        Answer::Bytes(bytes) => out.say("= {} bytes", &[bytes.len() as u64]),
+        answer => {
+            out.put("=");
+            out.show(&AnswerWords(answer));
         }
     }
 }
@@ -70,41 +65,39 @@ impl fmt::Display for Length {
     }
 }
 
-/// What is refused: a step with its rule, a line that no step uses, or a duty that is late at the end.
-#[derive(Clone, Copy)]
-pub(crate) struct RefusalWords<'c>(pub Refusal<'c>);
-
-impl fmt::Display for RefusalWords<'_> {
-    fn fmt<W: fmt::Write>(&self, f: &mut fmt::Formatter<W>) -> fmt::Result {
-        match self.0 {
-            Refusal::Nowhere => Ok(()),
-            Refusal::At { step, rule } => {
-                let step = RefusedStep(&step.label);
-                write!(f, "refused ({rule}): {step}")
-            }
-            Refusal::Unplaced(line) => write!(f, "refused (unplaced): no step uses line {line}"),
-            Refusal::Late { rule, .. } => write!(f, "refused ({rule}): a duty is late at the end"),
+/// Writes what is refused: a step with its rule, a line that no step uses, or a duty that is late at the end.
+pub(crate) fn push_refusal(out: &mut Sheet, refusal: Refusal) {
+    match refusal {
+        Refusal::Nowhere => {}
+        Refusal::At { step, rule } => {
+            push_rule(out, rule);
+            push_step(out, &step.label);
+        }
+        Refusal::Unplaced(line) => out.say("refused (unplaced): no step uses line {}", &[line]),
+        Refusal::Late { rule, .. } => {
+            push_rule(out, rule);
+            out.put("a duty is late at the end");
         }
     }
 }
 
-// What the refused step does. A segment that is built is described as its label would be.
-#[derive(Clone, Copy)]
-struct RefusedStep<'l>(&'l Label<NamedLine>);
+fn push_rule(out: &mut Sheet, rule: Rule) {
+    out.put("refused (");
+    out.show(&rule);
+    out.put("): ");
+}
 
-impl fmt::Display for RefusedStep<'_> {
-    fn fmt<W: fmt::Write>(&self, f: &mut fmt::Formatter<W>) -> fmt::Result {
-        let Label::M { host, plan } = self.0 else {
-            return StepWords(self.0).fmt(f);
-        };
-        let (host, flags, first) = (HostName(*host), FlagWords(plan.flags), plan.pos);
-        match plan.len {
-            0 => write!(f, "{host} builds {flags}{first}"),
-            len => write!(
-                f,
-                "{host} builds {flags}{first}..{}",
-                first.saturating_add(u64::from(len))
-            ),
-        }
+// Writes what the refused step does. A segment that is built is described as its label would be.
+fn push_step(out: &mut Sheet, label: &Label<NamedLine>) {
+    let Label::M { host, plan } = label else {
+        return out.show(&StepWords(label));
+    };
+    out.show(&HostName(*host));
+    out.put(" builds ");
+    out.show(&FlagWords(plan.flags));
+    out.number(plan.pos);
+    if plan.len != 0 {
+        let end = plan.pos.saturating_add(u64::from(plan.len));
+        out.say("..{}", &[end]);
     }
 }

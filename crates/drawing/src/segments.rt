@@ -2,7 +2,7 @@
 //! only where it changes.
 
 use case_forms::{Event, Flags, Host, Line, OutOfMemory, Version};
-use plain_words::{FlagWords, Numbers};
+use plain_words::{FlagWords, Numbers, Sheet};
 use segment::{Flag, Segment};
 use std::alloc::Global;
 use std::collections::BTreeMap;
@@ -28,7 +28,6 @@ const NOTHING: Said = Said {
 /// What the labels of segments depend on.
 #[derive(Drop)]
 pub(crate) struct SegmentLabels {
-    alloc: Global,
     version: Version,
     numbers: Numbers,
     /// The shift in the latest SYN.
@@ -41,7 +40,6 @@ pub(crate) struct SegmentLabels {
 impl SegmentLabels {
     pub(crate) fn new(alloc: Global, version: Version) -> SegmentLabels {
         SegmentLabels {
-            alloc,
             version,
             numbers: Numbers::new(alloc, version),
             shifts: BTreeMap::new(alloc),
@@ -64,19 +62,23 @@ impl SegmentLabels {
         Ok(())
     }
 
-    /// The label of a segment that a host sends: its flags, what it carries, and what it acknowledges and offers, if
-    /// that changed. The ports are named if the host's last label was of another connection.
-    pub(crate) fn label(&mut self, host: Host, seg: &Segment) -> Result<String, OutOfMemory> {
+    /// Writes the label of a segment that a host sends: its flags, what it carries, and what it acknowledges and
+    /// offers, if that changed. The ports are named if the host's last label was of another connection.
+    pub(crate) fn label(
+        &mut self,
+        words: &mut Sheet,
+        host: Host,
+        seg: &Segment,
+    ) -> Result<(), OutOfMemory> {
         let direction = direction_of(host, seg);
         let said = self.said.get(&direction).copied().unwrap_or(NOTHING);
-        let mut words = String::new(self.alloc);
-        self.name_ports(&mut words, host, seg)?;
+        self.name_ports(words, host, seg)?;
         let begun = words.len();
-        push_flags(&mut words, seg)?;
-        let length = self.extent(&mut words, host, seg, said)?;
+        push_flags(words, seg);
+        let length = self.extent(words, host, seg, said);
         let is_bare = words.len() == begun;
-        let ack = self.acknowledgment(&mut words, host, seg, said, is_bare)?;
-        let window = self.window(&mut words, host, seg, said)?;
+        let ack = self.acknowledgment(words, host, seg, said, is_bare);
+        let window = self.window(words, host, seg, said);
         self.said.insert(
             direction,
             Said {
@@ -85,81 +87,72 @@ impl SegmentLabels {
                 window,
             },
         )?;
-        Ok(words)
+        Ok(())
     }
 
     fn name_ports(
         &mut self,
-        words: &mut String,
+        words: &mut Sheet,
         host: Host,
         seg: &Segment,
     ) -> Result<(), OutOfMemory> {
         let ports = (seg.src, seg.dst);
-        let last = self.ports.insert(host as u8, ports)?;
-        if last.is_some_and(|last| last != ports) {
-            write!(words, "{} -> {}: ", seg.src, seg.dst)?;
+        match self.ports.insert(host as u8, ports)? {
+            Some(last) if last != ports => {
+                words.say("{} -> {}: ", &[u64::from(seg.src), u64::from(seg.dst)]);
+            }
+            _ => {}
         }
         Ok(())
     }
 
     // What a segment carries, from its first position to that after its last byte; how many bytes, if that changed.
-    fn extent(
-        &self,
-        words: &mut String,
-        host: Host,
-        seg: &Segment,
-        said: Said,
-    ) -> Result<usize, OutOfMemory> {
+    fn extent(&self, words: &mut Sheet, host: Host, seg: &Segment, said: Said) -> usize {
         let (first, length) = (self.numbers.position(host, seg), seg.payload.len());
         let end = first.wrapping_add(u32::try_from(length).unwrap_or(u32::MAX));
+        let (first, end) = (u64::from(first), u64::from(end));
         if seg.has(Flag::Syn) {
-            write!(words, "{first} ")?;
+            words.say("{} ", &[first]);
         }
         match length {
-            0 if seg.has(Flag::Rst) || seg.has(Flag::Fin) => write!(words, "{first} ")?,
+            0 if seg.has(Flag::Rst) || seg.has(Flag::Fin) => words.say("{} ", &[first]),
             0 => {}
-            _ if seg.has(Flag::Syn) => write!(words, "+{length} ")?,
-            _ if length == said.length => write!(words, "{first}..{end} ")?,
-            _ => write!(words, "{first}..{end} ({length}) ")?,
+            _ if seg.has(Flag::Syn) => words.say("+{} ", &[length as u64]),
+            _ if length == said.length => words.say("{}..{} ", &[first, end]),
+            _ => words.say("{}..{} ({}) ", &[first, end, length as u64]),
         }
-        Ok(if length == 0 { said.length } else { length })
+        if length == 0 { said.length } else { length }
     }
 
     // The acknowledgment, if it changed, or if the label has nothing else.
     fn acknowledgment(
         &self,
-        words: &mut String,
+        words: &mut Sheet,
         host: Host,
         seg: &Segment,
         said: Said,
         is_bare: bool,
-    ) -> Result<Option<u32>, OutOfMemory> {
+    ) -> Option<u32> {
         if !seg.has(Flag::Ack) {
-            return Ok(said.ack);
+            return said.ack;
         }
-        let ack = Some(self.numbers.acknowledged(host, seg));
-        if let Some(position) = ack.filter(|_| is_bare || ack != said.ack) {
-            write!(words, "ack {position} ")?;
+        let position = self.numbers.acknowledged(host, seg);
+        if is_bare || said.ack != Some(position) {
+            words.say("ack {} ", &[u64::from(position)]);
         }
-        Ok(ack)
+        Some(position)
     }
 
     // The window in bytes, if it changed. That of a reset means nothing.
-    fn window(
-        &self,
-        words: &mut String,
-        host: Host,
-        seg: &Segment,
-        said: Said,
-    ) -> Result<Option<u32>, OutOfMemory> {
+    fn window(&self, words: &mut Sheet, host: Host, seg: &Segment, said: Said) -> Option<u32> {
         if seg.has(Flag::Rst) {
-            return Ok(said.window);
+            return said.window;
         }
         let window = scaled_window(seg.window, self.shift(host, seg));
         if said.window != Some(window) {
-            write!(words, "win {window}")?;
+            words.say("win {}", &[u64::from(window)]);
         }
-        Ok(Some(window))
+        Some(window)
     }
 
     // By how many bits a segment's window is shifted. Windows are scaled if both SYNs have a shift, but never in a SYN.
@@ -167,14 +160,17 @@ impl SegmentLabels {
         if seg.has(Flag::Syn) || !self.version.scales() {
             return 0;
         }
-        let (there, back) = (
-            direction_of(host, seg),
-            (host.other() as u8, seg.dst, seg.src),
-        );
-        let shift_of = |way| self.shifts.get(&way).copied().flatten();
-        match (shift_of(there), shift_of(back)) {
+        let back = (host.other() as u8, seg.dst, seg.src);
+        match (self.shift_of(direction_of(host, seg)), self.shift_of(back)) {
             (Some(shift), Some(_)) => shift,
             _ => 0,
+        }
+    }
+
+    fn shift_of(&self, direction: Direction) -> Option<u8> {
+        match self.shifts.get(&direction) {
+            Some(shift) => *shift,
+            None => None,
         }
     }
 }
@@ -184,16 +180,14 @@ fn direction_of(host: Host, seg: &Segment) -> Direction {
 }
 
 // The flags. Nearly every segment has ACK, so it is named only with SYN, and if a segment should have it.
-fn push_flags(words: &mut String, seg: &Segment) -> Result<(), OutOfMemory> {
+fn push_flags(words: &mut Sheet, seg: &Segment) {
     let (ack, syn, rst) = (seg.has(Flag::Ack), seg.has(Flag::Syn), seg.has(Flag::Rst));
     let fin = seg.has(Flag::Fin);
     if syn || rst || fin {
         let ack = syn && ack;
-        let flags = Flags { ack, rst, syn, fin };
-        write!(words, "{}", FlagWords(flags))?;
+        words.show(&FlagWords(Flags { ack, rst, syn, fin }));
     }
     if !ack && !syn && !rst {
-        write!(words, "no ACK ")?;
+        words.put("no ACK ");
     }
-    Ok(())
 }

@@ -2,9 +2,9 @@
 
 use crate::calls::giver;
 use crate::scene::Scene;
-use case_forms::{Answer, Call, OutOfMemory, State};
+use case_forms::{Answer, Call, State};
 use endpoint_state::{Endpoint, World, call_allowed};
-use plain_words::{AnswerFields, Shown, word_if};
+use plain_words::{AnswerFields, Sheet, Shown, word_if};
 use spec_tcp::SocketTarget;
 use std::alloc::Global;
 
@@ -34,22 +34,23 @@ const WORDS: [Answer; 21] = [
 ];
 
 /// Writes the answers that a call may have, with `or` between them.
-pub(crate) fn say_allowed(out: &mut String, scene: &Scene, call: &Call) -> Result<(), OutOfMemory> {
+pub(crate) fn say_allowed(out: &mut Sheet, scene: &Scene, call: &Call) {
     let (world, start) = (scene.world, out.len());
-    say_words(out, world, call)?;
+    say_words(out, world, call);
     let or = word_if(start < out.len(), " or");
     match call {
         Call::Send(_, bytes) if call_allowed(world, call, &Answer::Given(1)).is_ok() => {
-            write!(out, "{or} ok N with N from 1 to {}", bytes.len())
+            out.put(or);
+            out.say(" ok N with N from 1 to {}", &[bytes.len() as u64]);
         }
         Call::Recv(socket, most) => match endpoint_named(world, *socket) {
             Some(endpoint) => say_bytes(out, scene, or, endpoint, *most),
-            None => Ok(()),
+            None => {}
         },
         Call::Listen(..) | Call::Connect(..) | Call::Accept(_)
             if call_allowed(world, call, &Answer::Given(u32::MAX)).is_ok() => {
-            out.push_str(or)?;
-            out.push_str(" ok N with a number N that was never returned")
+            out.put(or);
+            out.put(" ok N with a number N that was never returned");
         }
         Call::Listen(..)
         | Call::Connect(..)
@@ -59,20 +60,20 @@ pub(crate) fn say_allowed(out: &mut String, scene: &Scene, call: &Call) -> Resul
         | Call::Shut(_)
         | Call::Close(_)
         | Call::Abort(_)
-        | Call::Status(_) => Ok(()),
+        | Call::Status(_) => {}
     }
 }
 
 // Writes those of `WORDS` that a call may have.
-fn say_words(out: &mut String, world: &World, call: &Call) -> Result<(), OutOfMemory> {
+fn say_words(out: &mut Sheet, world: &World, call: &Call) {
     let start = out.len();
     for answer in &WORDS {
         if call_allowed(world, call, answer).is_ok() {
             let or = word_if(start < out.len(), " or");
-            write!(out, "{or}{}", AnswerFields(answer))?;
+            out.put(or);
+            out.show(&AnswerFields(answer));
         }
     }
-    Ok(())
 }
 
 /// The endpoint that a socket number names. None: it names none.
@@ -85,25 +86,21 @@ pub(crate) fn endpoint_named(world: &World, socket: u32) -> Option<&Endpoint> {
 }
 
 // Writes the bytes that `recv` may return, at most this many.
-fn say_bytes(
-    out: &mut String,
-    scene: &Scene,
-    or: &str,
-    endpoint: &Endpoint,
-    most: u16,
-) -> Result<(), OutOfMemory> {
-    let bytes = endpoint
-        .stream
-        .receive
-        .read(scene.alloc, usize::from(most))?;
-    say_data(out, scene.alloc, or, bytes.as_slice())
+fn say_bytes(out: &mut Sheet, scene: &Scene, or: &str, endpoint: &Endpoint, most: u16) {
+    match endpoint.stream.receive.read(scene.alloc, usize::from(most)) {
+        Ok(bytes) => say_data(out, scene.alloc, or, bytes.as_slice()),
+        Err(error) => out.note(Err(error)),
+    }
 }
 
-fn say_data(out: &mut String, alloc: Global, or: &str, bytes: &[u8]) -> Result<(), OutOfMemory> {
+fn say_data(out: &mut Sheet, alloc: Global, or: &str, bytes: &[u8]) {
     if bytes.is_empty() {
-        return Ok(());
+        return;
     }
-    let digits = hex::encode(alloc, bytes)?;
-    let digits = Shown(digits.as_bytes());
-    write!(out, "{or} data with 1 to {} bytes of {digits}", bytes.len())
+    out.put(or);
+    out.say(" data with 1 to {} bytes of ", &[bytes.len() as u64]);
+    match hex::encode(alloc, bytes) {
+        Ok(digits) => out.show(&Shown(digits.as_bytes())),
+        Err(error) => out.note(Err(error)),
+    }
 }

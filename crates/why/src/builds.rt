@@ -5,105 +5,106 @@ use crate::probes::say_probe;
 use crate::scene::{Building, Scene};
 use crate::states::say_way_out;
 use crate::timers::say_unrestarted;
-use case_forms::{Flags, OutOfMemory, POSITIONS, SegmentPlan};
+use case_forms::{Flags, POSITIONS, SegmentPlan};
 use endpoint_state::{Endpoint, World};
-use plain_words::{FlagWords, word_if};
+use plain_words::{FlagWords, Sheet, word_if};
 use replayed::{Reason, end_of, has_room, old_data_reason};
 use seqno::Word;
 use verdict::Rule;
 use window_rules::offered_edge;
 
 /// The length of the segment, and SMSS.
-pub(crate) fn size(out: &mut String, it: Building) -> Result<(), OutOfMemory> {
+pub(crate) fn size(out: &mut Sheet, it: Building) {
     let (len, smss) = (it.plan.len, it.endpoint.control.values.smss);
-    writeln!(out, "it has {len} bytes, SMSS is {smss}")
+    out.say(
+        "it has {} bytes, SMSS is {}\n",
+        &[u64::from(len), u64::from(smss)],
+    );
 }
 
 /// The end of new bytes, and the offered edge.
-pub(crate) fn offered(
-    out: &mut String,
-    Building { plan, endpoint, .. }: Building,
-) -> Result<(), OutOfMemory> {
+pub(crate) fn offered(out: &mut Sheet, Building { plan, endpoint, .. }: Building) {
     let (una, wnd) = (endpoint.stream.snd_una, endpoint.window.snd_wnd);
     if una >= POSITIONS {
-        return Ok(());
+        return;
     }
     let (end, due) = (end_of(plan), endpoint.probe_due);
     let edge = offered_edge(una, wnd, due);
     let probe = word_if(due, " (a probe of one byte is due)");
-    write!(out, "new bytes end at {end}, the offered edge is {edge} ")?;
-    writeln!(out, "= SND.UNA {una} + SND.WND {wnd}{probe}")
+    out.say("new bytes end at {}, the offered edge is {} ", &[end, edge]);
+    out.say("= SND.UNA {} + SND.WND {}", &[una, u64::from(wnd)]);
+    out.put(probe);
+    out.put("\n");
 }
 
 /// The end of the segment's bytes, which are `what`, and the congestion edge.
-pub(crate) fn congestion(
-    out: &mut String,
-    what: &str,
-    Building { plan, endpoint, .. }: Building,
-) -> Result<(), OutOfMemory> {
+pub(crate) fn congestion(out: &mut Sheet, what: &str, Building { plan, endpoint, .. }: Building) {
     let (una, control) = (endpoint.stream.snd_una, &endpoint.control);
     if una >= POSITIONS {
-        return Ok(());
+        return;
     }
     let (cwnd, smss) = (control.values.cwnd, control.values.smss);
     let (end, edge) = (end_of(plan), control.send_edge(una));
-    write!(out, "{what} end at {end}, the congestion edge ")?;
-    write!(out, "is {edge} = SND.UNA {una} + cwnd {cwnd}")?;
+    out.put(what);
+    out.say(" end at {}, the congestion edge ", &[end]);
+    out.say(
+        "is {} = SND.UNA {} + cwnd {}",
+        &[edge, una, u64::from(cwnd)],
+    );
     if edge > una.saturating_add(u64::from(cwnd)) {
-        writeln!(out, " + two segments of {smss}")
+        out.say(" + two segments of {}\n", &[u64::from(smss)]);
     } else {
-        out.push_str("\n")
+        out.put("\n");
     }
 }
 
 /// Where the segment begins, and what may be sent.
-pub(crate) fn old_data(out: &mut String, scene: &Scene, it: Building) -> Result<(), OutOfMemory> {
+pub(crate) fn old_data(out: &mut Sheet, scene: &Scene, it: Building) {
     let (plan, endpoint) = (it.plan, it.endpoint);
     let (pos, end, una) = (plan.pos, end_of(plan), endpoint.stream.snd_una);
     let (sent, recover) = (endpoint.snd_max(), endpoint.recover);
     let fin = word_if(plan.flags.fin, " with a FIN");
-    write!(out, "it begins at {pos} and ends at {end}{fin}")?;
+    out.say("it begins at {} and ends at {}", &[pos, end]);
+    out.put(fin);
     match old_data_reason(endpoint, plan) {
-        Reason::Gap { .. } => writeln!(out, ": a gap after {sent}, where the sent data ends"),
+        Reason::Gap { .. } => out.say(": a gap after {}, where the sent data ends\n", &[sent]),
         Reason::Acknowledged { .. } => {
-            writeln!(
-                out,
-                ": below SND.UNA {una}, so it is acknowledged; an empty segment may begin one below"
-            )
+            out.say(
+                ": below SND.UNA {}, so it is acknowledged; an empty segment may begin one below\n",
+                &[una],
+            );
         }
         Reason::Again { .. } | Reason::Beyond { .. } | Reason::Late(_) | Reason::Other => {
-            write!(out, "; sent up to {sent}")?;
+            out.say("; sent up to {}", &[sent]);
             if let Some(standing) = scene.standing {
-                out.push_str("\n")?;
-                say_kept(out, scene.header().grain, standing)?;
-                say_probe(out, it, standing)?;
+                out.put("\n");
+                say_kept(out, scene.header().grain, standing);
+                say_probe(out, it, standing);
             } else if scene.header().version.says_sender() {
-                out.push_str(
-                    "; no expiry and no fast recovery permits all of it to be sent again\n",
-                )?;
+                out.put("; no expiry and no fast recovery permits all of it to be sent again\n");
             } else {
-                writeln!(
-                    out,
-                    ", may be retransmitted up to {recover} (raised by an expiry or fast recovery)"
-                )?;
+                out.say(
+                    ", may be retransmitted up to {} (raised by an expiry or fast recovery)\n",
+                    &[recover],
+                );
             }
-            timer_due(out, endpoint, scene.moment())?;
-            say_unrestarted(out, scene, endpoint.timers.rto)
+            timer_due(out, endpoint, scene.moment());
+            say_unrestarted(out, scene, endpoint.timers.rto);
         }
     }
 }
 
 // When the retransmission timer is due, and how far that is from the step's moment.
-fn timer_due(out: &mut String, endpoint: &Endpoint, moment: u64) -> Result<(), OutOfMemory> {
+fn timer_due(out: &mut Sheet, endpoint: &Endpoint, moment: u64) {
     let Some(since) = endpoint.timers.rto_armed else {
-        return out.push_str("the retransmission timer is off\n");
+        return out.put("the retransmission timer is off\n");
     };
     let rto = endpoint.timers.rto;
     let due = since.saturating_add(rto);
-    write!(
-        out,
-        "the retransmission timer is due at {due} = {since} + RTO {rto}, "
-    )?;
+    out.say(
+        "the retransmission timer is due at {} = {} + RTO {}, ",
+        &[due, since, rto],
+    );
     let (distance, side) = if moment < due {
         (due - moment, "after this step")
     } else {
@@ -112,21 +113,23 @@ fn timer_due(out: &mut String, endpoint: &Endpoint, moment: u64) -> Result<(), O
             "before this step: the trace may lack its expiry",
         )
     };
-    writeln!(out, "{distance} us {side}")
+    out.say("{} us ", &[distance]);
+    out.put(side);
+    out.put("\n");
 }
 
 /// Where the segment's bytes begin and end, and which bytes may be sent.
-pub(crate) fn payload_range(
-    out: &mut String,
-    Building { plan, endpoint, .. }: Building,
-) -> Result<(), OutOfMemory> {
+pub(crate) fn payload_range(out: &mut Sheet, Building { plan, endpoint, .. }: Building) {
     let (pos, len, end) = (plan.pos, plan.len, end_of(plan));
-    write!(out, "it begins at {pos} and has {len} bytes, up to {end}")?;
+    out.say(
+        "it begins at {} and has {} bytes, up to {}",
+        &[pos, u64::from(len), end],
+    );
     if plan.flags.syn {
-        return out.push_str("; a SYN is at 0 and has no bytes\n");
+        return out.put("; a SYN is at 0 and has no bytes\n");
     }
     if plan.flags.rst {
-        return out.push_str("; a reset has no bytes\n");
+        return out.put("; a reset has no bytes\n");
     }
     let fin = word_if(plan.flags.fin, ", and a FIN there");
     let accepted = endpoint.stream.accepted.end();
@@ -135,58 +138,71 @@ pub(crate) fn payload_range(
     } else {
         "hasn't ended: no FIN may be sent"
     };
-    writeln!(
-        out,
-        "{fin}; sends accepted the bytes from 1 up to {accepted}, and sending {ended}"
-    )
+    out.put(fin);
+    out.say(
+        "; sends accepted the bytes from 1 up to {}, and sending ",
+        &[accepted],
+    );
+    out.put(ended);
+    out.put("\n");
 }
 
 /// Whether the segment has ACK, and whether the peer's SYN was received.
-pub(crate) fn ack_field(
-    out: &mut String,
-    Building { plan, endpoint, .. }: Building,
-) -> Result<(), OutOfMemory> {
+pub(crate) fn ack_field(out: &mut Sheet, Building { plan, endpoint, .. }: Building) {
     let no = word_if(!plan.flags.ack, "no ");
     let not = word_if(endpoint.rcv_nxt() == 0, "n't");
-    writeln!(out, "it has {no}ACK, and the peer's SYN was{not} received")
+    out.put("it has ");
+    out.put(no);
+    out.put("ACK, and the peer's SYN was");
+    out.put(not);
+    out.put(" received\n");
 }
 
 /// The initial sequence numbers that were given.
-pub(crate) fn iss(
-    out: &mut String,
-    Building { plan, endpoint, .. }: Building,
-) -> Result<(), OutOfMemory> {
-    say_given(out, endpoint.iss)?;
+pub(crate) fn iss(out: &mut Sheet, Building { plan, endpoint, .. }: Building) {
+    say_given(out, endpoint.iss);
     let with = if plan.flags.syn { "with" } else { "without" };
     match plan.iss {
-        Some(Word(iss)) => writeln!(out, "and the step gives {iss}, {with} a SYN"),
-        None => writeln!(out, "and the step gives none, {with} a SYN"),
+        Some(Word(iss)) => {
+            out.say("and the step gives {}, ", &[u64::from(iss)]);
+            out.put(with);
+            out.put(" a SYN\n");
+        }
+        None => {
+            out.put("and the step gives none, ");
+            out.put(with);
+            out.put(" a SYN\n");
+        }
     }
 }
 
 // Writes the initial sequence number that was given before.
-fn say_given(out: &mut String, iss: Option<Word>) -> Result<(), OutOfMemory> {
+fn say_given(out: &mut Sheet, iss: Option<Word>) {
     match iss {
-        Some(Word(iss)) => write!(out, "the initial sequence number {iss} was given before, "),
-        None => out.push_str("no initial sequence number was given yet, "),
+        Some(Word(iss)) => out.say(
+            "the initial sequence number {} was given before, ",
+            &[u64::from(iss)],
+        ),
+        None => out.put("no initial sequence number was given yet, "),
     }
 }
 
 /// What the state of the endpoint lets it build.
-pub(crate) fn state(out: &mut String, world: &World, it: Building) -> Result<(), OutOfMemory> {
+pub(crate) fn state(out: &mut Sheet, world: &World, it: Building) {
     let (flags, len) = (FlagWords(it.plan.flags), it.plan.len);
     let a = if it.endpoint.reset_due { "a" } else { "no" };
     let not = word_if(!it.endpoint.closed, "not ");
-    writeln!(
-        out,
-        "the segment: {flags}with {len} bytes; {a} reset is due, and the socket was {not}closed"
-    )?;
-    may_build(out, world, it)?;
+    out.put("the segment: ");
+    out.show(&flags);
+    out.say("with {} bytes; ", &[u64::from(len)]);
+    out.put(a);
+    out.put(" reset is due, and the socket was ");
+    out.put(not);
+    out.put("closed\n");
+    may_build(out, world, it);
     if is_of_another_state(it) {
         say_way_out(out, it.endpoint)
-    } else {
-        Ok(())
-    }
+    } else {}
 }
 
 /// Whether it isn't a reset, and may be built in another state than that of its endpoint.
@@ -232,17 +248,17 @@ const KINDS: [(&str, Flags, u16); 6] = [
 ];
 
 // Writes which kinds of segments may be built at these ports.
-fn may_build(out: &mut String, world: &World, it: Building) -> Result<(), OutOfMemory> {
-    out.push_str("allowed there:")?;
+fn may_build(out: &mut Sheet, world: &World, it: Building) {
+    out.put("allowed there:");
     let start = out.len();
     for (name, flags, len) in &KINDS {
         if allows(world, it, *flags, *len) {
-            out.push_str(word_if(start < out.len(), " or"))?;
-            out.push_str(name)?;
+            out.put(word_if(start < out.len(), " or"));
+            out.put(name);
         }
     }
-    out.push_str(word_if(start == out.len(), " no segment"))?;
-    out.push_str("\n")
+    out.put(word_if(start == out.len(), " no segment"));
+    out.put("\n");
 }
 
 // Whether the state of the endpoint lets it build a segment of this kind.

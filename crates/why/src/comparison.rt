@@ -5,13 +5,14 @@ use crate::{
     arrivals, builds, calls, inbox, late, limits, numbers, order, reported, resets, timers,
     timestamps, wire,
 };
-use case_forms::{Answer, OutOfMemory, Recovery, TakeChoice, Wire};
+use case_forms::{Answer, Recovery, TakeChoice, Wire};
 use endpoint_state::Endpoint;
+use plain_words::Sheet;
 use spec_tcp::{Arrived, Emission};
 use verdict::Rule;
 
 /// Writes what the rule compares. Each rule is named, so that a new one can't be forgotten here.
-pub(crate) fn compare(out: &mut String, scene: &Scene, rule: Rule) -> Result<(), OutOfMemory> {
+pub(crate) fn compare(out: &mut Sheet, scene: &Scene, rule: Rule) {
     match rule {
         Rule::LineRange => order::line_range(out, scene),
         Rule::LineAgain => order::line_again(out, scene),
@@ -26,8 +27,8 @@ pub(crate) fn compare(out: &mut String, scene: &Scene, rule: Rule) -> Result<(),
         Rule::ProcessLate => late::waiting(out, scene),
         Rule::AnswerLate => late::answer(out, scene),
         Rule::SendLate => {
-            late::never_sent(out, scene)?;
-            compare_at(out, scene, rule)
+            late::never_sent(out, scene);
+            compare_at(out, scene, rule);
         }
         Rule::AckLate
         | Rule::ExpiryLate
@@ -36,8 +37,8 @@ pub(crate) fn compare(out: &mut String, scene: &Scene, rule: Rule) -> Result<(),
         | Rule::StartLate
         | Rule::ResetLate => late::owed(out, scene),
         Rule::NoEndpoint | Rule::State => {
-            compare_at(out, scene, rule)?;
-            resets::say_reset(out, scene)
+            compare_at(out, scene, rule);
+            resets::say_reset(out, scene);
         }
         Rule::Socket
         | Rule::CallAnswer
@@ -75,12 +76,12 @@ pub(crate) fn compare(out: &mut String, scene: &Scene, rule: Rule) -> Result<(),
         | Rule::DoneTwice
         | Rule::AnswerDiffers
         | Rule::NoEmission
-        | Rule::Inbox => Ok(()),
+        | Rule::Inbox => {}
     }
 }
 
 // What a rule compares that several kinds of steps may break, or that needs what the step is about.
-fn compare_at(out: &mut String, scene: &Scene, rule: Rule) -> Result<(), OutOfMemory> {
+fn compare_at(out: &mut Sheet, scene: &Scene, rule: Rule) {
     match scene.object() {
         Object::Effect(thread, answer) => of_effect(out, scene, rule, thread, answer),
         Object::Building(it) => of_building(out, scene, rule, it),
@@ -89,34 +90,23 @@ fn compare_at(out: &mut String, scene: &Scene, rule: Rule) -> Result<(), OutOfMe
         Object::Processing(it) => of_processing(out, scene, rule, it),
         Object::Listening(_, _, choice) => of_listening(out, rule, choice),
         Object::Answered(host, m) if rule == Rule::State => {
-            inbox::unanswerable(out, scene, host, m)
+            inbox::unanswerable(out, scene, host, m);
         }
         Object::Expiring(it) => of_expiring(out, scene, rule, it),
         Object::Recovering(endpoint, it) => of_recovering(out, scene, rule, endpoint, it),
-        Object::End(..) | Object::Answered(..) | Object::Other => Ok(()),
+        Object::End(..) | Object::Answered(..) | Object::Other => {}
     }
 }
 
-fn of_effect(
-    out: &mut String,
-    scene: &Scene,
-    rule: Rule,
-    thread: u32,
-    answer: &Answer,
-) -> Result<(), OutOfMemory> {
+fn of_effect(out: &mut Sheet, scene: &Scene, rule: Rule, thread: u32, answer: &Answer) {
     match (rule, answer) {
         (Rule::Socket, Answer::Given(number)) => calls::socket(out, scene, *number),
         (Rule::CallAnswer, _) => calls::call_answer(out, scene, thread, answer),
-        _ => Ok(()),
+        _ => {}
     }
 }
 
-fn of_building(
-    out: &mut String,
-    scene: &Scene,
-    rule: Rule,
-    it: Building,
-) -> Result<(), OutOfMemory> {
+fn of_building(out: &mut Sheet, scene: &Scene, rule: Rule, it: Building) {
     match rule {
         Rule::NoEndpoint | Rule::State => builds::state(out, scene.world, it),
         Rule::Iss => builds::iss(out, it),
@@ -128,18 +118,11 @@ fn of_building(
         Rule::ResentBeyond => builds::congestion(out, "outstanding bytes", it),
         Rule::Size => builds::size(out, it),
         Rule::Resent => limits::resent(out, scene, it),
-        _ => Ok(()),
+        _ => {}
     }
 }
 
-fn of_sent(
-    out: &mut String,
-    scene: &Scene,
-    rule: Rule,
-    made: &Emission,
-    number: u32,
-    wire: &Wire,
-) -> Result<(), OutOfMemory> {
+fn of_sent(out: &mut Sheet, scene: &Scene, rule: Rule, made: &Emission, number: u32, wire: &Wire) {
     match rule {
         Rule::BytesDiffer => wire::differs(out, scene.header().version, made, wire),
         Rule::NotMade => wire::sent_before(out, scene, number),
@@ -147,48 +130,31 @@ fn of_sent(
         Rule::SackUntrue => reported::untrue(out, scene, made, wire),
         Rule::Echo => timestamps::echo(out, scene, made, number, wire),
         Rule::ClockFalls => timestamps::clock(out, scene, made, number, wire),
-        _ => Ok(()),
+        _ => {}
     }
 }
 
-fn of_came(
-    out: &mut String,
-    scene: &Scene,
-    rule: Rule,
-    m: &Emission,
-    wire: &Wire,
-) -> Result<(), OutOfMemory> {
+fn of_came(out: &mut Sheet, scene: &Scene, rule: Rule, m: &Emission, wire: &Wire) {
     match rule {
         Rule::CopyDiffers => wire::copy_differs(out, scene.header().version, m, wire),
         Rule::Lifetime => wire::lifetime(out, scene, m),
-        _ => Ok(()),
+        _ => {}
     }
 }
 
-fn of_processing(
-    out: &mut String,
-    scene: &Scene,
-    rule: Rule,
-    it: Processing,
-) -> Result<(), OutOfMemory> {
+fn of_processing(out: &mut Sheet, scene: &Scene, rule: Rule, it: Processing) {
     match rule {
-        Rule::State => out.push_str("in SYN-SENT only a segment with SYN or RST is processed\n"),
+        Rule::State => out.put("in SYN-SENT only a segment with SYN or RST is processed\n"),
         Rule::QueueFull => arrivals::queue_full(out, scene, it),
         _ => match scene.as_read(it.endpoint, it.m) {
             Some(m) => of_read(out, scene, rule, it, &m),
-            None => Ok(()),
+            None => {}
         },
     }
 }
 
 // The segment is given as its endpoint reads it.
-fn of_read(
-    out: &mut String,
-    scene: &Scene,
-    rule: Rule,
-    it: Processing,
-    m: &Arrived,
-) -> Result<(), OutOfMemory> {
+fn of_read(out: &mut Sheet, scene: &Scene, rule: Rule, it: Processing, m: &Arrived) {
     match rule {
         Rule::NotPeer => arrivals::not_peer(out, scene, it, m),
         Rule::Number => numbers::misread(out, scene, it.endpoint, m),
@@ -198,52 +164,44 @@ fn of_read(
         Rule::Sample => arrivals::sample(out, scene.header().version, it.endpoint, m),
         Rule::ScaleUnread => arrivals::scale_unread(out, it.endpoint, m),
         Rule::Discarded => limits::discarded(out, it.endpoint, m),
-        _ => Ok(()),
+        _ => {}
     }
 }
 
-fn of_listening(out: &mut String, rule: Rule, choice: TakeChoice) -> Result<(), OutOfMemory> {
+fn of_listening(out: &mut Sheet, rule: Rule, choice: TakeChoice) {
     match rule {
-        Rule::State => out.push_str(
+        Rule::State => out.put(
             "a listener processes only a segment with SYN, without ACK and RST\n",
         ),
         Rule::Growth => {
             let cwnd = choice.cwnd;
-            writeln!(out, "the step chooses cwnd {cwnd}, a child begins with 0")
+            out.say(
+                "the step chooses cwnd {}, a child begins with 0\n",
+                &[u64::from(cwnd)],
+            );
         }
-        Rule::Sample => out.push_str(
+        Rule::Sample => out.put(
             "the step measures a round trip, but a child has sent nothing that could be acknowledged\n",
         ),
-        _ => Ok(()),
+        _ => {}
     }
 }
 
-fn of_expiring(
-    out: &mut String,
-    scene: &Scene,
-    rule: Rule,
-    it: Expiring,
-) -> Result<(), OutOfMemory> {
+fn of_expiring(out: &mut Sheet, scene: &Scene, rule: Rule, it: Expiring) {
     match rule {
-        Rule::NoEndpoint => out.push_str("the endpoint is CLOSED, and has no timers\n"),
+        Rule::NoEndpoint => out.put("the endpoint is CLOSED, and has no timers\n"),
         Rule::Growth => timers::growth(out, scene, it),
         Rule::TimerOff => timers::off(out, scene, it),
         Rule::TimerEarly => timers::early(out, scene, it),
-        _ => Ok(()),
+        _ => {}
     }
 }
 
-fn of_recovering(
-    out: &mut String,
-    scene: &Scene,
-    rule: Rule,
-    endpoint: &Endpoint,
-    it: Recovery,
-) -> Result<(), OutOfMemory> {
+fn of_recovering(out: &mut Sheet, scene: &Scene, rule: Rule, endpoint: &Endpoint, it: Recovery) {
     match rule {
-        Rule::NoEndpoint => out.push_str("the endpoint is CLOSED\n"),
+        Rule::NoEndpoint => out.put("the endpoint is CLOSED\n"),
         Rule::State => timers::handshake(out, endpoint),
         Rule::Recovery => timers::recovery(out, scene, endpoint, it),
-        _ => Ok(()),
+        _ => {}
     }
 }

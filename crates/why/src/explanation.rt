@@ -8,10 +8,10 @@ use crate::scene::{Object, Past, Scene};
 use crate::unjudged::say_unjudged;
 use crate::wrap::say_wrap;
 use crate::{arrivals, calls, inbox, late, wire};
-use case_forms::{Event, Label, Line, OutOfMemory, Step};
+use case_forms::{Event, Label, Line, Step};
 use checker::{CaseFault, check_case};
 use line_fields::{FaultKind, TextFault};
-use plain_words::{Shown, fault_line};
+use plain_words::{Sheet, Shown, fault_line};
 use replayed::{Case, ReplayFault, Texts, line_at};
 use std::alloc::Global;
 use verdict::{Rule, Verdict};
@@ -29,19 +29,23 @@ pub struct Explanation {
 /// Explains the verdict on a case, whose segments have this origin.
 pub fn explain(alloc: Global, text: &[u8], origin: Origin) -> Result<Explanation, ReplayFault> {
     let checked = check_case(alloc, text);
-    let mut said = String::new(alloc);
-    let status = say(alloc, &mut said, text, origin, checked)?;
-    Ok(Explanation {
-        text: said,
-        status,
-        checked,
-    })
+    let mut said = Sheet::new(alloc);
+    let status = say(alloc, &mut said, text, origin, checked);
+    let text = said.finish();
+    match status {
+        Ok(status) => Ok(Explanation {
+            text: text?,
+            status,
+            checked,
+        }),
+        Err(fault) => Err(fault),
+    }
 }
 
 // Writes what is said, and returns the status.
 fn say(
     alloc: Global,
-    out: &mut String,
+    out: &mut Sheet,
     text: &[u8],
     origin: Origin,
     checked: Result<Verdict, CaseFault>,
@@ -60,12 +64,13 @@ fn say(
 
 fn say_verdict(
     alloc: Global,
-    out: &mut String,
+    out: &mut Sheet,
     text: &[u8],
     origin: Origin,
     verdict: Verdict,
 ) -> Result<u8, ReplayFault> {
-    writeln!(out, "{verdict}")?;
+    out.show(&verdict);
+    out.put("\n");
     match verdict {
         Verdict::Yes { .. } => Ok(0),
         // Both texts were read before, so that only memory can fail.
@@ -79,7 +84,7 @@ fn say_verdict(
 // The line of a fault, and where it is in its text.
 fn say_fault(
     alloc: Global,
-    out: &mut String,
+    out: &mut Sheet,
     refusal: &str,
     bytes: &[u8],
     fault: &TextFault,
@@ -87,30 +92,23 @@ fn say_fault(
     if let FaultKind::OutOfMemory = fault.kind {
         return Err(ReplayFault::OutOfMemory);
     }
-    say_fault_line(alloc, out, refusal, fault)?;
-    mark(out, bytes, fault)?;
+    match fault_line(alloc, refusal, fault) {
+        Ok(line) => out.put(line.as_str()),
+        Err(error) => out.note(Err(error)),
+    }
+    mark(out, bytes, fault);
     Ok(2)
-}
-
-fn say_fault_line(
-    alloc: Global,
-    out: &mut String,
-    refusal: &str,
-    fault: &TextFault,
-) -> Result<(), OutOfMemory> {
-    let line = fault_line(alloc, refusal, fault)?;
-    out.push_str(line.as_str())
 }
 
 // What is refused, and the reason for it.
 fn explain_no(
     alloc: Global,
-    out: &mut String,
+    out: &mut Sheet,
     case: &Case,
     rule: Rule,
     origin: Origin,
 ) -> Result<u8, ReplayFault> {
-    quote(out, case)?;
+    quote(out, case);
     let mut past = Past::new(alloc, case);
     let explained = run_and_explain(out, &mut past, rule, origin);
     drop(past);
@@ -118,40 +116,35 @@ fn explain_no(
 }
 
 fn run_and_explain(
-    out: &mut String,
+    out: &mut Sheet,
     past: &mut Past,
     rule: Rule,
     origin: Origin,
 ) -> Result<u8, ReplayFault> {
     past.run()?;
     let scene = past.scene();
-    describe(out, &scene, rule)?;
-    explain_refusal(out, &scene, rule, origin)?;
+    describe(out, &scene, rule);
+    explain_refusal(out, &scene, rule, origin);
     Ok(1)
 }
 
 // What is known at the refused step or after the last one.
-fn describe(out: &mut String, scene: &Scene, rule: Rule) -> Result<(), OutOfMemory> {
+fn describe(out: &mut Sheet, scene: &Scene, rule: Rule) {
     match scene.step {
         Some(step) if !is_of_order(rule) => describe_step(out, scene, step),
-        Some(_) => Ok(()),
+        Some(_) => {}
         None => late::describe_end(out, scene),
     }
 }
 
 // What the rule compares, and the usual causes.
-fn explain_refusal(
-    out: &mut String,
-    scene: &Scene,
-    rule: Rule,
-    origin: Origin,
-) -> Result<(), OutOfMemory> {
-    compare(out, scene, rule)?;
-    say_cause(out, scene, rule, origin)?;
+fn explain_refusal(out: &mut Sheet, scene: &Scene, rule: Rule, origin: Origin) {
+    compare(out, scene, rule);
+    say_cause(out, scene, rule, origin);
     if !is_of_order(rule) {
-        say_wrap(out, scene)?;
+        say_wrap(out, scene);
     }
-    say_unjudged(out, scene, rule)
+    say_unjudged(out, scene, rule);
 }
 
 // Whether a rule is about nothing but the order of the lines.
@@ -169,7 +162,7 @@ fn is_of_order(rule: Rule) -> bool {
 }
 
 // The step and the trace line, as written.
-fn quote(out: &mut String, case: &Case) -> Result<(), OutOfMemory> {
+fn quote(out: &mut Sheet, case: &Case) {
     let Ok(
         Verdict::No {
             witness_line,
@@ -178,43 +171,46 @@ fn quote(out: &mut String, case: &Case) -> Result<(), OutOfMemory> {
         },
     ) = &case.verdict
     else {
-        return Ok(());
+        return;
     };
     if let Some(line) = line_at(case.texts.witness, *witness_line) {
-        writeln!(out, "the step: {}", Shown(line))?;
+        out.put("the step: ");
+        out.show(&Shown(line));
+        out.put("\n");
     }
     if let Some(line) = line_at(case.texts.trace, *trace_line) {
-        writeln!(out, "trace line {trace_line}: {}", Shown(line))?;
+        out.say("trace line {}: ", &[*trace_line]);
+        out.show(&Shown(line));
+        out.put("\n");
     }
-    Ok(())
 }
 
 // What the step is about.
-fn describe_step(out: &mut String, scene: &Scene, step: &Step) -> Result<(), OutOfMemory> {
+fn describe_step(out: &mut Sheet, scene: &Scene, step: &Step) {
     match &step.label {
         Label::L(named) => match scene.line(named.number) {
             Some(line) => describe_line(out, scene, line),
-            None => Ok(()),
+            None => {}
         },
         Label::D { thread, .. } => calls::describe_thread(out, scene, *thread),
         Label::M { host, plan } => describe_ports(out, scene, *host, plan.lport, plan.rport),
         Label::T { host, line, .. } => {
-            inbox::describe_arrival(out, scene, *host, *line)?;
+            inbox::describe_arrival(out, scene, *host, *line);
             match scene.object() {
                 Object::Listening(host, m, _) => arrivals::listener(out, scene.world, host, m),
-                _ => Ok(()),
+                _ => {}
             }
         }
         Label::K { host, line } | Label::R { host, line } => {
-            inbox::describe_arrival(out, scene, *host, *line)
+            inbox::describe_arrival(out, scene, *host, *line);
         }
         Label::F { host, recovery } => {
-            describe_ports(out, scene, *host, recovery.lport, recovery.rport)
+            describe_ports(out, scene, *host, recovery.lport, recovery.rport);
         }
     }
 }
 
-fn describe_line(out: &mut String, scene: &Scene, line: &Line) -> Result<(), OutOfMemory> {
+fn describe_line(out: &mut Sheet, scene: &Scene, line: &Line) {
     match &line.event {
         Event::CallBegin(_) => calls::describe_thread(out, scene, line.thread),
         Event::CallEnd(answer) => calls::describe_end(out, scene, line.thread, answer),

@@ -9,10 +9,10 @@ use crate::scene::{Building, Expiring, Object, Processing, Scene};
 use crate::sendable::sendable_bytes;
 use crate::undoing::{is_known_of_undoing, may_be_undone};
 use crate::{resets, wire};
-use case_forms::{Call, Extras, Judged, OutOfMemory, RecoveryChange, Timer, Version, Wire};
+use case_forms::{Call, Extras, Judged, RecoveryChange, Timer, Version, Wire};
 use endpoint::{acknowledges, greatest_values};
 use endpoint_state::Endpoint;
-use plain_words::{Known, about};
+use plain_words::{Known, Sheet, about};
 use replayed::{Reason, end_of, old_data_reason};
 use spec_tcp::Emission;
 use verdict::Rule;
@@ -30,22 +30,23 @@ pub enum Origin {
 }
 
 /// Writes the usual causes, after the other windows that the segment would fit.
-pub(crate) fn say_cause(
-    out: &mut String,
-    scene: &Scene,
-    rule: Rule,
-    origin: Origin,
-) -> Result<(), OutOfMemory> {
-    say_fitting(out, scene, rule)?;
+pub(crate) fn say_cause(out: &mut Sheet, scene: &Scene, rule: Rule, origin: Origin) {
+    say_fitting(out, scene, rule);
     let about = about(rule);
     let (usual, captured) = match about.special.iter().find(|known| is_known(scene, **known)) {
         Some(known) => (known.usual(), known.captured()),
         None => (about.usual, about.captured),
     };
-    writeln!(out, "usually: {usual}")?;
+    out.put("usually: ");
+    out.put(usual);
+    out.put("\n");
     match origin {
-        Origin::Captured if !captured.is_empty() => writeln!(out, "in a capture: {captured}"),
-        Origin::Captured | Origin::Simulated => Ok(()),
+        Origin::Captured if !captured.is_empty() => {
+            out.put("in a capture: ");
+            out.put(captured);
+            out.put("\n");
+        }
+        Origin::Captured | Origin::Simulated => {}
     }
 }
 

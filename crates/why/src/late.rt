@@ -4,60 +4,65 @@ use crate::calls::{describe_thread, giver};
 use crate::described::{describe, describe_ports};
 use crate::scene::{Object, Scene};
 use crate::sendable::say_sendable;
-use case_forms::{Label, OutOfMemory};
+use case_forms::Label;
 use duties::{answer_due, is_late, unanswered_since};
-use plain_words::{Shown, about};
+use plain_words::{Sheet, Shown, about};
 use replayed::{Held, Refusal};
 use spec_duties::{OpenCall, Waiting};
 use verdict::Rule;
 
 /// Writes which duty is late after the last step, if one is, and the endpoint whose it is.
-pub(crate) fn describe_end(out: &mut String, scene: &Scene) -> Result<(), OutOfMemory> {
+pub(crate) fn describe_end(out: &mut Sheet, scene: &Scene) {
     let Refusal::Late { rule, .. } = scene.refusal() else {
-        return Ok(());
+        return;
     };
     let (moment, refused) = (scene.last_moment(), about(rule).refused);
-    writeln!(
-        out,
-        "no step is refused, and each line is placed\nby the moment of the last step, {moment}, a duty is \
-late: {refused}"
-    )?;
+    out.say(
+        "no step is refused, and each line is placed\nby the moment of the last step, {}, a duty is \
+late: ",
+        &[moment],
+    );
+    out.show(&refused);
+    out.put("\n");
     match (scene.debtor, scene.held) {
         (Some(debtor), _) => describe(out, scene, debtor.id),
         (None, Some(held)) => describe_builder(out, scene, held),
-        (None, None) => Ok(()),
+        (None, None) => {}
     }
 }
 
 // Writes the endpoint that built a segment, unless the segment is a reset that answered another one.
-fn describe_builder(out: &mut String, scene: &Scene, held: Held) -> Result<(), OutOfMemory> {
+fn describe_builder(out: &mut Sheet, scene: &Scene, held: Held) {
     match scene.built_by(held.number) {
         Some(built) => match &built.step.label {
             Label::M { host, plan } => describe_ports(out, scene, *host, plan.lport, plan.rport),
-            _ => Ok(()),
+            _ => {}
         },
-        None => Ok(()),
+        None => {}
     }
 }
 
 /// Writes the endpoint that the step touches, if that is the effect of a call or a segment that is sent. For any other
 /// step it was written before.
-pub(crate) fn describe_touched(out: &mut String, scene: &Scene) -> Result<(), OutOfMemory> {
+pub(crate) fn describe_touched(out: &mut Sheet, scene: &Scene) {
     let is_unwritten = matches!(scene.object(), Object::Effect(..) | Object::Sent(..));
     match scene.touched {
         Some(id) if is_unwritten => describe(out, scene, id),
-        _ => Ok(()),
+        _ => {}
     }
 }
 
 /// Since when the segment waits in the inbox, and when it was due.
-pub(crate) fn waiting(out: &mut String, scene: &Scene) -> Result<(), OutOfMemory> {
+pub(crate) fn waiting(out: &mut Sheet, scene: &Scene) {
     let line = waiting_line(scene);
     let Some(since) = scene.duties.waiting_since(line) else {
-        return Ok(());
+        return;
     };
-    write!(out, "the segment of line {line} has waited since {since}; ")?;
-    say_due(out, scene, "it", u128::from(since))
+    out.say(
+        "the segment of line {} has waited since {}; ",
+        &[line, since],
+    );
+    say_due(out, scene, "it", u128::from(since));
 }
 
 // The line of the segment that waits; 0 if none does.
@@ -70,75 +75,83 @@ fn waiting_line(scene: &Scene) -> u64 {
 }
 
 /// When the segment was built that the step sends, and when it was due.
-pub(crate) fn built(out: &mut String, scene: &Scene, number: u32) -> Result<(), OutOfMemory> {
-    describe_touched(out, scene)?;
+pub(crate) fn built(out: &mut Sheet, scene: &Scene, number: u32) {
+    describe_touched(out, scene);
     let Some(since) = scene.duties.built_since(number) else {
-        return Ok(());
+        return;
     };
-    write!(out, "segment {number} was built at {since}; ")?;
-    say_due(out, scene, "it", u128::from(since))
+    out.say("segment {} was built at {}; ", &[u64::from(number), since]);
+    say_due(out, scene, "it", u128::from(since));
 }
 
 /// The first segment that was built and never sent, and when it was due.
-pub(crate) fn never_sent(out: &mut String, scene: &Scene) -> Result<(), OutOfMemory> {
+pub(crate) fn never_sent(out: &mut Sheet, scene: &Scene) {
     match scene.held {
         Some(held) => {
-            say_held(out, scene, held)?;
-            out.push_str("; ")?;
-            say_due(out, scene, "it", held.late.due)
+            say_held(out, scene, held);
+            out.put("; ");
+            say_due(out, scene, "it", held.late.due);
         }
-        None => Ok(()),
+        None => {}
     }
 }
 
 // Writes which step built a segment, and whether it was sent.
-fn say_held(out: &mut String, scene: &Scene, held: Held) -> Result<(), OutOfMemory> {
+fn say_held(out: &mut Sheet, scene: &Scene, held: Held) {
     let (number, since) = (held.number, held.built);
     if let Some(built) = scene.built_by(number) {
-        writeln!(out, "witness line {}: {}", built.line, Shown(built.text))?;
+        out.say("witness line {}: ", &[built.line]);
+        out.show(&Shown(built.text));
+        out.put("\n");
     }
-    write!(out, "segment {number} was built there at {since}")?;
+    out.say(
+        "segment {} was built there at {}",
+        &[u64::from(number), since],
+    );
     match scene.step {
-        Some(_) => out.push_str(", and is sent by the step"),
-        None => out.push_str(", and never sent"),
+        Some(_) => out.put(", and is sent by the step"),
+        None => out.put(", and never sent"),
     }
 }
 
 /// What an endpoint owes, and when it was due.
-pub(crate) fn owed(out: &mut String, scene: &Scene) -> Result<(), OutOfMemory> {
-    describe_touched(out, scene)?;
+pub(crate) fn owed(out: &mut Sheet, scene: &Scene) {
+    describe_touched(out, scene);
     match (scene.debtor, scene.held) {
         (Some(debtor), _) => {
-            say_due(out, scene, debtor.debt.what, debtor.debt.due)?;
-            say_open(out, scene, debtor.debt.rule)
+            say_due(out, scene, debtor.debt.what, debtor.debt.due);
+            say_open(out, scene, debtor.debt.rule);
         }
         (None, Some(held)) => brought(out, scene, held),
-        (None, None) => Ok(()),
+        (None, None) => {}
     }
 }
 
 // The acknowledgment that a built segment brings, and when it was due.
-fn brought(out: &mut String, scene: &Scene, held: Held) -> Result<(), OutOfMemory> {
-    say_held(out, scene, held)?;
+fn brought(out: &mut Sheet, scene: &Scene, held: Held) {
+    say_held(out, scene, held);
     let since = held.late.since;
-    writeln!(
-        out,
-        "; it brings an acknowledgment that is owed since {since}"
-    )?;
-    say_due(out, scene, "an acknowledgment", held.late.due)
+    out.say(
+        "; it brings an acknowledgment that is owed since {}\n",
+        &[since],
+    );
+    say_due(out, scene, "an acknowledgment", held.late.due);
 }
 
 /// Since when a call need not wait any more, and when its answer was due.
-pub(crate) fn answer(out: &mut String, scene: &Scene) -> Result<(), OutOfMemory> {
+pub(crate) fn answer(out: &mut Sheet, scene: &Scene) {
     let Some((thread, since)) = late_answer(scene) else {
-        return Ok(());
+        return;
     };
     if scene.step.is_none() {
-        describe_thread(out, scene, thread)?;
+        describe_thread(out, scene, thread);
     }
-    write!(out, "the answer to thread {thread} is owed since {since}; ")?;
+    out.say(
+        "the answer to thread {} is owed since {}; ",
+        &[u64::from(thread), since],
+    );
     let due = answer_due(Some(since)).unwrap_or(0);
-    say_due(out, scene, "it", due)
+    say_due(out, scene, "it", due);
 }
 
 // The first thread whose answer is late, if it is that of the step, and since when it is owed.
@@ -189,22 +202,27 @@ fn answer_since(scene: &Scene, call: OpenCall) -> Option<u64> {
 }
 
 // Writes what could be sent, if the duty is that of a window that was closed.
-fn say_open(out: &mut String, scene: &Scene, rule: Rule) -> Result<(), OutOfMemory> {
+fn say_open(out: &mut Sheet, scene: &Scene, rule: Rule) {
     match scene.concerned() {
         Some(endpoint) if matches!(rule, Rule::ProbeLate | Rule::ResendLate) => {
-            say_sendable(out, endpoint)
+            say_sendable(out, endpoint);
         }
-        _ => Ok(()),
+        _ => {}
     }
 }
 
 // When something was due, without and with the slack, and the moment that is too late.
-fn say_due(out: &mut String, scene: &Scene, what: &str, due: u128) -> Result<(), OutOfMemory> {
+fn say_due(out: &mut Sheet, scene: &Scene, what: &str, due: u128) {
     let slack = u128::from(scene.header().slack.unwrap_or(0));
     let latest = due.saturating_add(slack);
-    write!(out, "{what} was due by {due}, with the slack by {latest}; ")?;
+    out.put(what);
+    out.put(" was due by ");
+    out.show(&due);
+    out.put(", with the slack by ");
+    out.show(&latest);
+    out.put("; ");
     match scene.step {
-        Some(step) => writeln!(out, "the step's moment is {}", step.moment),
-        None => writeln!(out, "the last step's moment is {}", scene.last_moment()),
+        Some(step) => out.say("the step's moment is {}\n", &[step.moment]),
+        None => out.say("the last step's moment is {}\n", &[scene.last_moment()]),
     }
 }

@@ -3,9 +3,10 @@
 use crate::late::describe_touched;
 use crate::scene::{Building, Object, Scene};
 use crate::timestamps::not_outdated;
-use case_forms::{Label, OutOfMemory, TakeChoice};
+use case_forms::{Label, TakeChoice};
 use duties::earliest_credit;
 use endpoint_state::Endpoint;
+use plain_words::Sheet;
 use spec_duties::Owed;
 use spec_tcp::Arrived;
 
@@ -17,94 +18,91 @@ const LEAST: TakeChoice = TakeChoice {
 };
 
 /// Why the segment of a line may not be dropped.
-pub(crate) fn dropped(out: &mut String, scene: &Scene) -> Result<(), OutOfMemory> {
+pub(crate) fn dropped(out: &mut Sheet, scene: &Scene) {
     let Some(Label::K { host, line }) = scene.label() else {
-        return Ok(());
+        return;
     };
     let taken = scene
         .world
         .admits_taking(*host, scene.moment(), *line, LEAST);
-    out.push_str(if taken.is_ok() {
+    out.put(if taken.is_ok() {
         "processing it would break no rule, so it may not be dropped\n"
     } else {
         "answering it with a reset would break no rule, so it may not be dropped\n"
-    })?;
+    });
     match scene.world.waiting(*host, *line) {
         Some(m) => not_outdated(out, scene, m),
-        None => Ok(()),
+        None => {}
     }
 }
 
 /// What is next in order, and where the receive window ends.
-pub(crate) fn discarded(
-    out: &mut String,
-    endpoint: &Endpoint,
-    m: &Arrived,
-) -> Result<(), OutOfMemory> {
+pub(crate) fn discarded(out: &mut Sheet, endpoint: &Endpoint, m: &Arrived) {
     let (first, length) = (m.pos(), m.length());
     let (next, edge) = (endpoint.rcv_nxt(), endpoint.window.rcv_adv);
-    writeln!(
-        out,
-        "it occupies {length} positions, from {first} on; {next} is next in order and inside the window, which \
-ends before {edge}, and the step doesn't keep it"
-    )
+    out.put("it occupies ");
+    out.show(&length);
+    out.say(
+        " positions, from {} on; {} is next in order and inside the window, which \
+ends before {}, and the step doesn't keep it\n",
+        &[first, next, edge],
+    );
 }
 
 /// Where the segment begins, and up to where data was sent again already.
-pub(crate) fn resent(out: &mut String, scene: &Scene, it: Building) -> Result<(), OutOfMemory> {
+pub(crate) fn resent(out: &mut Sheet, scene: &Scene, it: Building) {
     let Some(Owed { again, .. }) = owed_by_touched(scene) else {
-        return Ok(());
+        return;
     };
-    writeln!(
-        out,
-        "it begins at {}, and again is {again}: all positions below that were sent again already",
-        it.plan.pos
-    )
+    out.say(
+        "it begins at {}, and again is {}: all positions below that were sent again already\n",
+        &[it.plan.pos, again],
+    );
 }
 
 /// For how many segments an acknowledgment may still be sent.
-pub(crate) fn ack_excess(out: &mut String, scene: &Scene) -> Result<(), OutOfMemory> {
-    describe_touched(out, scene)?;
+pub(crate) fn ack_excess(out: &mut Sheet, scene: &Scene) {
+    describe_touched(out, scene);
     if scene.header().version.says_sender() {
         return credits_left(out, scene);
     }
     let Some(Owed { answers, .. }) = owed_by_touched(scene) else {
-        return Ok(());
+        return;
     };
-    writeln!(
-        out,
-        "answers is {answers}: as many acknowledgments were sent as segments came"
-    )
+    out.say(
+        "answers is {}: as many acknowledgments were sent as segments came\n",
+        &[u64::from(answers)],
+    );
 }
 
 // The same in version 6: from which moment on it needs a credit.
-fn credits_left(out: &mut String, scene: &Scene) -> Result<(), OutOfMemory> {
+fn credits_left(out: &mut Sheet, scene: &Scene) {
     let (Object::Sent(_, number, _), Some(slack)) = (scene.object(), scene.header().slack) else {
-        return Ok(());
+        return;
     };
     let Some(built) = scene.duties.built_since(number) else {
-        return Ok(());
+        return;
     };
     let from = earliest_credit(slack, built);
-    writeln!(
-        out,
-        "segment {number} was built at {built}; it needs a credit that the endpoint earned at {from} or later, and 0 \
-are left"
-    )
+    out.say(
+        "segment {} was built at {}; it needs a credit that the endpoint earned at {} or later, and 0 \
+are left\n",
+        &[u64::from(number), built, from],
+    );
 }
 
 /// From which position on a round trip is to be measured.
-pub(crate) fn sample_due(out: &mut String, scene: &Scene) -> Result<(), OutOfMemory> {
-    describe_touched(out, scene)?;
+pub(crate) fn sample_due(out: &mut Sheet, scene: &Scene) {
+    describe_touched(out, scene);
     let Some(id) = scene.touched else {
-        return Ok(());
+        return;
     };
     let timed = scene.duties.strict_by(id.host, id.number).timed;
-    writeln!(
-        out,
-        "a round trip is to be measured of what was built from position {timed} on, the segment acknowledges such a \
-position, which was built once, and sample is 0"
-    )
+    out.say(
+        "a round trip is to be measured of what was built from position {} on, the segment acknowledges such a \
+position, which was built once, and sample is 0\n",
+        &[timed],
+    );
 }
 
 // What the endpoint owes that the step touches.

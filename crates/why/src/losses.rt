@@ -1,69 +1,66 @@
 //! What an endpoint knows of losses if both SYNs permitted SACK.
 
-use case_forms::OutOfMemory;
 use flights::{Fate, Loss, Standing};
-use plain_words::{Known, word_if};
+use plain_words::{Known, Sheet, word_if};
 use spec_flights::Probe;
 
 /// Why a position may not be sent again.
-pub(crate) fn say_kept(out: &mut String, grain: u64, it: Standing) -> Result<(), OutOfMemory> {
+pub(crate) fn say_kept(out: &mut Sheet, grain: u64, it: Standing) {
     let position = it.position;
     if let Fate::Told = it.fate {
-        return writeln!(
-            out,
-            "the peer's SACK blocks report position {position}; only a later expiry permits sending it again"
+        out.say(
+            "the peer's SACK blocks report position {}; only a later expiry permits sending it again\n",
+            &[position],
         );
+        return;
     }
     if it.recovers_upto.is_none() {
-        out.push_str("no recovery is going on: an F step or an expiry has to come first\n")?;
+        out.put("no recovery is going on: an F step or an expiry has to come first\n");
     }
-    say_loss(out, grain, it)
+    say_loss(out, grain, it);
 }
 
 /// Whether a position in flight counts as lost, and from when on it does.
-pub(crate) fn say_loss(out: &mut String, grain: u64, it: Standing) -> Result<(), OutOfMemory> {
+pub(crate) fn say_loss(out: &mut Sheet, grain: u64, it: Standing) {
     let Fate::InFlight {
         moment,
         again,
         loss,
     } = it.fate
     else {
-        return Ok(());
+        return;
     };
     let (position, again) = (it.position, word_if(again, " again"));
-    write!(out, "position {position} was built{again} at {moment}")?;
+    out.say("position {} was built", &[position]);
+    out.put(again);
+    out.say(" at {}", &[moment]);
     match loss {
-        Loss::Lost => out.push_str(", and counts as lost\n"),
+        Loss::Lost => out.put(", and counts as lost\n"),
         Loss::Later {
             round_trip,
             reordering,
         } => say_later(out, grain, moment, round_trip, reordering),
-        Loss::Unknown => writeln!(
-            out,
-            "; nothing built later was delivered, so it doesn't count as lost{again}"
-        ),
+        Loss::Unknown => {
+            out.put("; nothing built later was delivered, so it doesn't count as lost");
+            out.put(again);
+            out.put("\n");
+        }
     }
 }
 
-fn say_later(
-    out: &mut String,
-    grain: u64,
-    moment: u64,
-    round_trip: u64,
-    reordering: u64,
-) -> Result<(), OutOfMemory> {
+fn say_later(out: &mut Sheet, grain: u64, moment: u64, round_trip: u64, reordering: u64) {
     let from = moment
         .saturating_add(round_trip)
         .saturating_add(reordering)
         .saturating_sub(grain);
-    write!(
-        out,
-        "; it counts as lost once SACK blocks report three whole segments, or from {from} on "
-    )?;
-    writeln!(
-        out,
-        "= {moment} + round trip {round_trip} + reordering {reordering} - grain {grain}"
-    )
+    out.say(
+        "; it counts as lost once SACK blocks report three whole segments, or from {} on ",
+        &[from],
+    );
+    out.say(
+        "= {} + round trip {} + reordering {} - grain {}\n",
+        &[moment, round_trip, reordering, grain],
+    );
 }
 
 /// Whether fast recovery may begin after this many duplicate acknowledgments.

@@ -1,8 +1,7 @@
 //! A line of a text that can't be read, with a mark under its columns.
 
-use case_forms::OutOfMemory;
 use line_fields::{FaultKind, TextFault};
-use plain_words::{Shown, is_shown};
+use plain_words::{Sheet, Shown, is_shown};
 use replayed::line_at;
 use segment::SegFault;
 
@@ -13,44 +12,49 @@ const BEFORE: usize = 60;
 const SHOWN: usize = 110;
 
 /// Writes the line with the fault, and a mark under its columns.
-pub(crate) fn mark(out: &mut String, text: &[u8], fault: &TextFault) -> Result<(), OutOfMemory> {
+pub(crate) fn mark(out: &mut Sheet, text: &[u8], fault: &TextFault) {
     let meaning = meaning(fault.kind);
     let Some(line) = line_at(text, fault.span.line) else {
-        return writeln!(out, "the text ends before this line: {meaning}");
+        out.put("the text ends before this line: ");
+        out.put(meaning);
+        out.put("\n");
+        return;
     };
     let from = fault.span.start.saturating_sub(BEFORE);
     let left = line.get(from..).unwrap_or(&[]);
     let shown = left.get(..SHOWN).unwrap_or(left);
     let before = fault.span.start.saturating_sub(from);
     let marked = fault.span.stop.saturating_sub(fault.span.start);
-    write!(out, "  {}\n  ", Shown(shown))?;
-    push_blank(out, shown.get(..before).unwrap_or(shown))?;
-    push_marks(out, shown.get(before..).unwrap_or(&[]), marked)?;
-    writeln!(out, "\n{meaning}")
+    out.put("  ");
+    out.show(&Shown(shown));
+    out.put("\n  ");
+    push_blank(out, shown.get(..before).unwrap_or(shown));
+    push_marks(out, shown.get(before..).unwrap_or(&[]), marked);
+    out.put("\n");
+    out.put(meaning);
+    out.put("\n");
 }
 
 // Writes a space under each column of the bytes shown, and a tab under a tab.
-fn push_blank(out: &mut String, bytes: &[u8]) -> Result<(), OutOfMemory> {
+fn push_blank(out: &mut Sheet, bytes: &[u8]) {
     for byte in bytes {
-        out.push_str(match *byte {
+        out.put(match *byte {
             b'\t' => "\t",
             byte if is_shown(byte) => " ",
             _ => "    ",
-        })?;
+        });
     }
-    Ok(())
 }
 
 // Writes marks under the first `count` of the bytes shown; one mark if there are none.
-fn push_marks(out: &mut String, bytes: &[u8], count: usize) -> Result<(), OutOfMemory> {
+fn push_marks(out: &mut Sheet, bytes: &[u8], count: usize) {
     let start = out.len();
     for byte in bytes.iter().take(count) {
-        out.push_str(if is_shown(*byte) { "^" } else { "^^^^" })?;
+        out.put(if is_shown(*byte) { "^" } else { "^^^^" });
     }
     if out.len() == start {
-        out.push_str("^")?;
+        out.put("^");
     }
-    Ok(())
 }
 
 fn meaning(kind: FaultKind) -> &'static str {

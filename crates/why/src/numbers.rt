@@ -1,9 +1,9 @@
 //! Numbers of a received segment as positions, and the ranges that the rules require.
 
 use crate::scene::Scene;
-use case_forms::{OutOfMemory, POSITIONS};
+use case_forms::POSITIONS;
 use endpoint_state::Endpoint;
-use plain_words::word_if;
+use plain_words::{Sheet, word_if};
 use seqno::{Word, read_near};
 use spec_tcp::Arrived;
 
@@ -17,58 +17,45 @@ pub(crate) fn position(number: Word, near: u64, base: Option<Word>) -> Option<u6
 }
 
 // Writes the position that a number reads as.
-fn reading(
-    out: &mut String,
-    name: &str,
-    number: Word,
-    near: u64,
-    base: Option<Word>,
-) -> Result<(), OutOfMemory> {
-    write!(out, "its {name} {} reads near {near} as ", number.0)?;
+fn reading(out: &mut Sheet, name: &str, number: Word, near: u64, base: Option<Word>) {
+    out.put("its ");
+    out.put(name);
+    out.say(" {} reads near {} as ", &[u64::from(number.0), near]);
     match position(number, near, base) {
-        Some(place) => write!(out, "position {place}"),
-        None => out.push_str("no position"),
+        Some(place) => out.say("position {}", &[place]),
+        None => out.put("no position"),
     }
 }
 
 /// The positions that both numbers read as. Without a half case, also those that the segment was built with.
-pub(crate) fn misread(
-    out: &mut String,
-    scene: &Scene,
-    endpoint: &Endpoint,
-    m: &Arrived,
-) -> Result<(), OutOfMemory> {
+pub(crate) fn misread(out: &mut Sheet, scene: &Scene, endpoint: &Endpoint, m: &Arrived) {
     let half = scene.header().version.is_half();
     let (next, irs) = (endpoint.rcv_nxt(), endpoint.irs);
-    reading(out, "sequence number", m.seq(), next, irs)?;
+    reading(out, "sequence number", m.seq(), next, irs);
     if m.is_reset_reply() {
-        return out.push_str("\n");
+        return out.put("\n");
     }
-    built_with(out, half, m.pos())?;
+    built_with(out, half, m.pos());
     if !m.flags().ack {
-        return Ok(());
+        return;
     }
     let (una, iss) = (endpoint.stream.snd_una, endpoint.iss);
-    reading(out, "acknowledgment number", m.ack_seq(), una, iss)?;
-    built_with(out, half, m.ack())
+    reading(out, "acknowledgment number", m.ack_seq(), una, iss);
+    built_with(out, half, m.ack());
 }
 
-fn built_with(out: &mut String, half: bool, position: u64) -> Result<(), OutOfMemory> {
+fn built_with(out: &mut Sheet, half: bool, position: u64) {
     if half {
-        out.push_str("\n")
+        out.put("\n")
     } else {
-        writeln!(out, ", it was built with {position}")
+        out.say(", it was built with {}\n", &[position]);
     }
 }
 
 /// The positions that a segment occupies, and the receive window.
-pub(crate) fn unacceptable(
-    out: &mut String,
-    endpoint: &Endpoint,
-    m: &Arrived,
-) -> Result<(), OutOfMemory> {
+pub(crate) fn unacceptable(out: &mut Sheet, endpoint: &Endpoint, m: &Arrived) {
     if m.flags().syn && !m.flags().rst {
-        return out.push_str(
+        return out.put(
             "it has a SYN, which is acceptable only in SYN-RECEIVED, at position 0 and with ACK\n",
         );
     }
@@ -78,26 +65,27 @@ pub(crate) fn unacceptable(
     } else {
         m.pos()
     };
-    write!(out, "it occupies {length} positions, from {first} on; ")?;
+    out.put("it occupies ");
+    out.show(&length);
+    out.say(" positions, from {} on; ", &[first]);
     match endpoint.window.rcv_adv.checked_sub(1) {
         Some(last) if next <= last => {
-            writeln!(
-                out,
-                "its first or last has to be in the receive window, from {next} to {last}"
-            )
+            out.say(
+                "its first or last has to be in the receive window, from {} to {}\n",
+                &[next, last],
+            );
         }
-        _ => writeln!(out, "the receive window is 0, so it has to begin at {next}"),
+        _ => out.say(
+            "the receive window is 0, so it has to begin at {}\n",
+            &[next],
+        ),
     }
 }
 
 /// The position that a segment acknowledges, and those that it may.
-pub(crate) fn ack_range(
-    out: &mut String,
-    endpoint: &Endpoint,
-    m: &Arrived,
-) -> Result<(), OutOfMemory> {
+pub(crate) fn ack_range(out: &mut Sheet, endpoint: &Endpoint, m: &Arrived) {
     if !m.flags().ack {
-        return out.push_str(
+        return out.put(
             "it has no ACK, which a reset needs in SYN-SENT and any other segment always\n",
         );
     }
@@ -109,25 +97,25 @@ pub(crate) fn ack_range(
         endpoint.state.is_syn_received(),
         "; in SYN-RECEIVED it has to be above SND.UNA",
     );
-    writeln!(
-        out,
-        "it acknowledges {ack}; SND.UNA is {una}, sent up to {sent}{above}"
-    )
+    out.say(
+        "it acknowledges {}; SND.UNA is {}, sent up to {}",
+        &[ack, una, sent],
+    );
+    out.put(above);
+    out.put("\n");
 }
 
 /// The acknowledgment number, and the one that acknowledges the endpoint's own SYN.
-pub(crate) fn ack_of_syn(
-    out: &mut String,
-    endpoint: &Endpoint,
-    m: &Arrived,
-) -> Result<(), OutOfMemory> {
-    write!(out, "its acknowledgment number is {}; ", m.ack_seq().0)?;
+pub(crate) fn ack_of_syn(out: &mut Sheet, endpoint: &Endpoint, m: &Arrived) {
+    out.say(
+        "its acknowledgment number is {}; ",
+        &[u64::from(m.ack_seq().0)],
+    );
     match endpoint.iss {
-        Some(iss) => writeln!(
-            out,
-            "{} acknowledges the endpoint's own SYN",
-            iss.0.wrapping_add(1)
+        Some(iss) => out.say(
+            "{} acknowledges the endpoint's own SYN\n",
+            &[u64::from(iss.0.wrapping_add(1))],
         ),
-        None => out.push_str("the endpoint's own SYN wasn't built yet\n"),
+        None => out.put("the endpoint's own SYN wasn't built yet\n"),
     }
 }

@@ -1,10 +1,11 @@
 //! The rules of the order of lines.
 
 use crate::scene::Scene;
-use case_forms::{Event, Line, NamedLine, OutOfMemory, Timer};
+use case_forms::{Event, Line, NamedLine, Timer};
+use plain_words::Sheet;
 
 /// A line that the trace doesn't have, or extra numbers that it can't have.
-pub(crate) fn line_range(out: &mut String, scene: &Scene) -> Result<(), OutOfMemory> {
+pub(crate) fn line_range(out: &mut Sheet, scene: &Scene) {
     let NamedLine { number, extras } = scene.named();
     match scene.line(number) {
         Some(line) => extras_off(out, scene, line, extras.count()),
@@ -12,17 +13,19 @@ pub(crate) fn line_range(out: &mut String, scene: &Scene) -> Result<(), OutOfMem
     }
 }
 
-fn extras_off(out: &mut String, scene: &Scene, line: &Line, count: u8) -> Result<(), OutOfMemory> {
+fn extras_off(out: &mut Sheet, scene: &Scene, line: &Line, count: u8) {
     let wanted = wanted(line, scene.header().version.is_half());
-    writeln!(out, "extra numbers in the step: {count}; {wanted}")
+    out.say("extra numbers in the step: {}; ", &[u64::from(count)]);
+    out.put(wanted);
+    out.put("\n");
 }
 
-fn no_line(out: &mut String, scene: &Scene, number: u64) -> Result<(), OutOfMemory> {
+fn no_line(out: &mut Sheet, scene: &Scene, number: u64) {
     let (count, first) = (scene.lines().len(), scene.header().first_event_line());
-    writeln!(
-        out,
-        "the trace has {count} event lines, from line {first} on; the step names line {number}"
-    )
+    out.say(
+        "the trace has {} event lines, from line {} on; the step names line {}\n",
+        &[count as u64, first, number],
+    );
 }
 
 // The extra numbers of a line.
@@ -39,27 +42,27 @@ fn wanted(line: &Line, half: bool) -> &'static str {
 }
 
 /// A line that was used before.
-pub(crate) fn line_again(out: &mut String, scene: &Scene) -> Result<(), OutOfMemory> {
+pub(crate) fn line_again(out: &mut Sheet, scene: &Scene) {
     let number = scene.named().number;
     let step = scene.used_by(number).unwrap_or(0);
-    writeln!(
-        out,
-        "line {number} was already used by line {step} of the witness"
-    )
+    out.say(
+        "line {} was already used by line {} of the witness\n",
+        &[number, step],
+    );
 }
 
 /// The first earlier line of the same thread that isn't used yet.
-pub(crate) fn thread_order(out: &mut String, scene: &Scene) -> Result<(), OutOfMemory> {
+pub(crate) fn thread_order(out: &mut Sheet, scene: &Scene) {
     let number = scene.named().number;
     let Some(line) = scene.line(number) else {
-        return Ok(());
+        return;
     };
     let thread = line.thread;
     let earlier = earlier_line(scene, number, thread);
-    writeln!(
-        out,
-        "line {earlier} of the same thread {thread} comes first and isn't used yet"
-    )
+    out.say(
+        "line {} of the same thread {} comes first and isn't used yet\n",
+        &[earlier, u64::from(thread)],
+    );
 }
 
 // The first line of a thread before a line that isn't used yet; 0 if there is none.
@@ -73,38 +76,38 @@ fn earlier_line(scene: &Scene, number: u64, thread: u32) -> u64 {
 }
 
 /// The moment of the step, next to that of the step before it.
-pub(crate) fn moment_falls(out: &mut String, scene: &Scene) -> Result<(), OutOfMemory> {
+pub(crate) fn moment_falls(out: &mut Sheet, scene: &Scene) {
     let (moment, last) = (scene.moment(), scene.last_moment());
-    writeln!(
-        out,
-        "the step's moment is {moment}, that of the step before is {last}"
-    )
+    out.say(
+        "the step's moment is {}, that of the step before is {}\n",
+        &[moment, last],
+    );
 }
 
 /// When a line may be used.
-pub(crate) fn moment_off(out: &mut String, scene: &Scene) -> Result<(), OutOfMemory> {
+pub(crate) fn moment_off(out: &mut Sheet, scene: &Scene) {
     let Some(line) = scene.line(scene.named().number) else {
-        return Ok(());
+        return;
     };
     let (moment, from, skew) = (scene.moment(), line.moment, scene.header().skew);
     let to = from.saturating_add(skew);
-    writeln!(
-        out,
-        "the step's moment is {moment}, the line may be used from {from} to {to} (its moment plus skew {skew})"
-    )
+    out.say(
+        "the step's moment is {}, the line may be used from {} to {} (its moment plus skew {})\n",
+        &[moment, from, to, skew],
+    );
 }
 
 /// The first line that had to be used before the step's moment.
-pub(crate) fn overdue(out: &mut String, scene: &Scene) -> Result<(), OutOfMemory> {
+pub(crate) fn overdue(out: &mut Sheet, scene: &Scene) {
     let (moment, skew) = (scene.moment(), scene.header().skew);
     let Some(line) = overdue_line(scene, skew, moment) else {
-        return Ok(());
+        return;
     };
     let (number, by) = (line.number, line.moment.saturating_add(skew));
-    writeln!(
-        out,
-        "line {number} had to be used by {by}; the step's moment is {moment}"
-    )
+    out.say(
+        "line {} had to be used by {}; the step's moment is {}\n",
+        &[number, by, moment],
+    );
 }
 
 // The first line that is overdue at a moment.
@@ -118,11 +121,11 @@ fn overdue_line<'c>(scene: &Scene<'c>, skew: u64, moment: u64) -> Option<&'c Lin
 }
 
 /// The event lines that no step used.
-pub(crate) fn unplaced(out: &mut String, scene: &Scene) -> Result<(), OutOfMemory> {
+pub(crate) fn unplaced(out: &mut Sheet, scene: &Scene) {
     let (steps, all) = (scene.before.len(), scene.lines().len());
     let unused = all.saturating_sub(scene.used.len());
-    writeln!(
-        out,
-        "the witness has {steps} steps; unused event lines: {unused} of {all}, and this is the first"
-    )
+    out.say(
+        "the witness has {} steps; unused event lines: {} of {}, and this is the first\n",
+        &[steps as u64, unused as u64, all as u64],
+    );
 }

@@ -8,7 +8,7 @@ use crate::scene::{Object, Scene};
 use crate::segment_window::SegmentWindow;
 use case_forms::{Host, Label, OutOfMemory, POSITIONS, Step};
 use endpoint_state::{Endpoint, World};
-use plain_words::Known;
+use plain_words::{Known, Sheet};
 use replayed::end_of;
 use spec_tcp::Arrived;
 use std::alloc::Global;
@@ -160,49 +160,47 @@ impl OtherWindows {
 
 /// Writes which other windows the segment of the step would fit; nothing if there are none. A segment of more than SMSS
 /// bytes fits none.
-pub(crate) fn say_fitting(out: &mut String, scene: &Scene, rule: Rule) -> Result<(), OutOfMemory> {
+pub(crate) fn say_fitting(out: &mut Sheet, scene: &Scene, rule: Rule) {
     match (scene.object(), scene.others) {
         (Object::Building(it), Some(others)) if rule == Rule::Offered => {
-            fits_latest(out, others, end_of(it.plan))
+            fits_latest(out, others, end_of(it.plan));
         }
         (Object::Building(it), Some(others))
             if rule == Rule::Congestion && u32::from(it.plan.len) <= others.now.congestion.smss => {
             if it.endpoint.control.profile.slow_start() == SlowStart::Recommended {
-                fits_upper(out, others, end_of(it.plan))?;
+                fits_upper(out, others, end_of(it.plan));
             }
-            fits_after_loss(out, others, end_of(it.plan))?;
-            fits_segments(out, others)
+            fits_after_loss(out, others, end_of(it.plan));
+            fits_segments(out, others);
         }
-        _ => Ok(()),
+        _ => {}
     }
 }
 
-fn fits_latest(out: &mut String, others: &OtherWindows, end: u64) -> Result<(), OutOfMemory> {
+fn fits_latest(out: &mut Sheet, others: &OtherWindows, end: u64) {
     let latest = others.latest;
     if end <= others.now.una.saturating_add(u64::from(latest)) {
-        writeln!(
-            out,
-            "it would fit the window {latest} of the last new acknowledgment (Linux). RFC 9293, 3.10.7.4, doesn't \
-use that: SND.WL1 is greater"
-        )?;
+        out.say(
+            "it would fit the window {} of the last new acknowledgment (Linux). RFC 9293, 3.10.7.4, doesn't \
+use that: SND.WL1 is greater\n",
+            &[u64::from(latest)],
+        );
     }
-    Ok(())
 }
 
-fn fits_upper(out: &mut String, others: &OtherWindows, end: u64) -> Result<(), OutOfMemory> {
+fn fits_upper(out: &mut Sheet, others: &OtherWindows, end: u64) {
     let (una, cwnd) = (others.now.una, others.upper.cwnd);
     let window = Congestion {
         cwnd,
         ..others.now.congestion
     };
     if una < POSITIONS && end <= congestion_edge(una, &window) {
-        writeln!(
-            out,
-            "it would fit if slow start added one SMSS for each acknowledgment, with cwnd {cwnd}. RFC 5681, 3.1, \
-and version 5 allow that; this version allows min(N, SMSS)"
-        )?;
+        out.say(
+            "it would fit if slow start added one SMSS for each acknowledgment, with cwnd {}. RFC 5681, 3.1, \
+and version 5 allow that; this version allows min(N, SMSS)\n",
+            &[u64::from(cwnd)],
+        );
     }
-    Ok(())
 }
 
 // What a stack may leave out at a loss.
@@ -215,24 +213,24 @@ const LEFT_OUT: [(Known, &str); 3] = [
     (Known::NotReduced, "the expiry hadn't reduced cwnd"),
 ];
 
-fn fits_after_loss(out: &mut String, others: &OtherWindows, end: u64) -> Result<(), OutOfMemory> {
+fn fits_after_loss(out: &mut Sheet, others: &OtherWindows, end: u64) {
     for (known, what) in &LEFT_OUT {
         if let Some(cwnd) = others.fitting(*known, end) {
-            writeln!(out, "it would fit if {what}, with cwnd {cwnd}")?;
+            out.put("it would fit if ");
+            out.put(what);
+            out.say(", with cwnd {}\n", &[u64::from(cwnd)]);
         }
     }
-    Ok(())
 }
 
-fn fits_segments(out: &mut String, others: &OtherWindows) -> Result<(), OutOfMemory> {
+fn fits_segments(out: &mut Sheet, others: &OtherWindows) {
     let flight = others.segments.flight().saturating_add(1);
     let allowed = others.segments.allowed(&others.now);
     if flight <= allowed {
-        writeln!(
-            out,
-            "it would fit a window that counts segments (Linux): {flight} are in flight with this one, and the \
-window would be {allowed}"
-        )?;
+        out.say(
+            "it would fit a window that counts segments (Linux): {} are in flight with this one, and the \
+window would be {}\n",
+            &[flight, allowed],
+        );
     }
-    Ok(())
 }

@@ -1,48 +1,44 @@
 //! What an endpoint owes.
 
 use crate::scene::Scene;
-use case_forms::OutOfMemory;
 use endpoint_state::Endpoint;
-use plain_words::word_if;
+use plain_words::{Sheet, word_if};
 use replayed::{Debt, debts_of};
 use spec_tcp::EndpointId;
 
 /// Writes what an endpoint owes, if the header has a slack.
-pub(crate) fn describe_owed(
-    out: &mut String,
-    scene: &Scene,
-    id: EndpointId,
-    endpoint: &Endpoint,
-) -> Result<(), OutOfMemory> {
+pub(crate) fn describe_owed(out: &mut Sheet, scene: &Scene, id: EndpointId, endpoint: &Endpoint) {
     let Some(slack) = scene.header().slack else {
-        return Ok(());
+        return;
     };
-    out.push_str("  owes:")?;
+    out.put("  owes:");
     let start = out.len();
     let debts = debts_of(scene.header(), scene.duties, id, endpoint);
-    say_debts(out, &debts)?;
+    say_debts(out, &debts);
     if start == out.len() {
-        out.push_str(" nothing\n")
+        out.put(" nothing\n")
     } else {
-        writeln!(out, " (and {slack} of slack)")
+        out.say(" (and {} of slack)\n", &[slack]);
     }
 }
 
-fn say_debts(out: &mut String, debts: &[Option<Debt>]) -> Result<(), OutOfMemory> {
+fn say_debts(out: &mut Sheet, debts: &[Option<Debt>]) {
     let start = out.len();
     for debt in debts {
         if let Some(debt) = debt {
-            out.push_str(word_if(start < out.len(), ";"))?;
-            say_debt(out, debt)?;
+            out.put(word_if(start < out.len(), ";"));
+            say_debt(out, debt);
         }
     }
-    Ok(())
 }
 
-fn say_debt(out: &mut String, debt: &Debt) -> Result<(), OutOfMemory> {
-    write!(out, " {} since {}, ", debt.what, debt.since)?;
+fn say_debt(out: &mut Sheet, debt: &Debt) {
+    out.put(" ");
+    out.put(debt.what);
+    out.say(" since {}, ", &[debt.since]);
     if debt.is_due_at_once() {
-        return out.push_str("due at once");
+        return out.put("due at once");
     }
-    write!(out, "due by {}", debt.due)
+    out.put("due by ");
+    out.show(&debt.due);
 }

@@ -3,68 +3,64 @@
 use crate::scene::{Building, Expiring, Scene};
 use crate::timers::handshake;
 use crate::undoing::{may_be_undone, say_undoable};
-use case_forms::OutOfMemory;
 use endpoint_state::Endpoint;
 use flights::{ProbeStanding, ProbeWait, Standing};
-use plain_words::{Known, word_if};
+use plain_words::{Known, Sheet, word_if};
 use replayed::end_of;
 use spec_flights::Probe;
 use spec_tcp::EndpointId;
 
 /// Why no probe may be sent.
-pub(crate) fn off(out: &mut String, scene: &Scene, it: Expiring) -> Result<(), OutOfMemory> {
+pub(crate) fn off(out: &mut Sheet, scene: &Scene, it: Expiring) {
     let endpoint = it.endpoint;
     if !endpoint.is_up() {
         return handshake(out, endpoint);
     }
     let (una, sent) = (endpoint.stream.snd_una, endpoint.snd_max());
     if sent <= una {
-        return writeln!(
-            out,
-            "there is nothing to probe for: SND.UNA {una}, sent up to {sent}"
+        out.say(
+            "there is nothing to probe for: SND.UNA {}, sent up to {}\n",
+            &[una, sent],
         );
+        return;
     }
     match standing_of(scene) {
         Some(standing) => {
-            say_kept(out, endpoint, standing)?;
+            say_kept(out, endpoint, standing);
             match standing {
                 ProbeStanding::Recovers(_) => say_undoable(out, scene),
-                _ => Ok(()),
+                _ => {}
             }
         }
-        None => Ok(()),
+        None => {}
     }
 }
 
 // What keeps an endpoint with something outstanding from probing.
-fn say_kept(out: &mut String, endpoint: &Endpoint, it: ProbeStanding) -> Result<(), OutOfMemory> {
+fn say_kept(out: &mut Sheet, endpoint: &Endpoint, it: ProbeStanding) {
     match it {
         ProbeStanding::Plain { own, peers } => {
             let which = which_forbids(own, peers);
-            writeln!(
-                out,
-                "{which} didn't permit SACK, which probes for a loss need"
-            )
+            out.put(which);
+            out.put(" didn't permit SACK, which probes for a loss need\n");
         }
         ProbeStanding::Recovers(upto) => {
             let una = endpoint.stream.snd_una;
-            writeln!(
-                out,
-                "a recovery is going on: it ends once all below {upto} is acknowledged, and SND.UNA is {una}"
-            )
+            out.say(
+                "a recovery is going on: it ends once all below {} is acknowledged, and SND.UNA is {}\n",
+                &[upto, una],
+            );
         }
         ProbeStanding::Due => {
-            out.push_str(
-                "the last tail loss probe is still due: the next segment with data is it\n",
-            )
+            out.put("the last tail loss probe is still due: the next segment with data is it\n");
         }
         ProbeStanding::Out(upto) => say_sent(out, upto, endpoint),
-        ProbeStanding::Unsent => out.push_str("nothing was sent yet\n"),
-        ProbeStanding::Reported(position) => writeln!(
-            out,
-            "the peer's SACK blocks report position {position}: a recovery finds the loss"
+        ProbeStanding::Unsent => out.put("nothing was sent yet\n"),
+        ProbeStanding::Reported(position) => out.say(
+            "the peer's SACK blocks report position {}: a recovery finds the loss\n",
+            &[position],
         ),
-        ProbeStanding::Waits(_) => Ok(()),
+        ProbeStanding::Waits(_) => {}
     }
 }
 
@@ -79,27 +75,28 @@ fn which_forbids(own: bool, peers: bool) -> &'static str {
 }
 
 /// From when on a probe may be sent.
-pub(crate) fn early(out: &mut String, scene: &Scene, it: Expiring) -> Result<(), OutOfMemory> {
+pub(crate) fn early(out: &mut Sheet, scene: &Scene, it: Expiring) {
     let Some(ProbeStanding::Waits(wait)) = standing_of(scene) else {
-        return Ok(());
+        return;
     };
     let (quiet, time, due) = (wait.quiet, wait.time, wait.due);
-    write!(
-        out,
-        "nothing new was acknowledged or sent since {quiet}; a tail loss probe waits for "
-    )?;
+    out.say(
+        "nothing new was acknowledged or sent since {}; a tail loss probe waits for ",
+        &[quiet],
+    );
+    out.show(&time);
     match it.endpoint.timers.srtt {
-        Some(srtt) => write!(out, "{time} = 2 SRTT {srtt}")?,
-        None => write!(out, "{time}, as no round trip was measured")?,
+        Some(srtt) => out.say(" = 2 SRTT {}", &[srtt]),
+        None => out.put(", as no round trip was measured"),
     }
-    write!(out, ": it is due at {due}")?;
+    out.put(": it is due at ");
+    out.show(&due);
     let is_bound = due < u128::from(quiet).saturating_add(time);
-    out.push_str(word_if(is_bound, ", when rto expires"))?;
+    out.put(word_if(is_bound, ", when rto expires"));
     let (grain, from, moment) = (scene.header().grain, earliest(scene, wait), scene.moment());
-    writeln!(
-        out,
-        "\nit may come a clock tick ({grain}) early: from {from} on; the step's moment is {moment}"
-    )
+    out.say("\nit may come a clock tick ({}) early: from ", &[grain]);
+    out.show(&from);
+    out.say(" on; the step's moment is {}\n", &[moment]);
 }
 
 // The earliest moment of a probe.
@@ -109,23 +106,20 @@ fn earliest(scene: &Scene, wait: ProbeWait) -> u128 {
 }
 
 /// Writes whether a probe is due or was sent, or from when on one may be sent, if one may.
-pub(crate) fn describe_probe(
-    out: &mut String,
-    scene: &Scene,
-    id: EndpointId,
-    endpoint: &Endpoint,
-) -> Result<(), OutOfMemory> {
+pub(crate) fn describe_probe(out: &mut Sheet, scene: &Scene, id: EndpointId, endpoint: &Endpoint) {
     let is_outstanding = endpoint.is_up() && endpoint.stream.snd_una < endpoint.snd_max();
     match scene.probe_standing(id) {
-        Some(ProbeStanding::Due) => out.push_str("  a tail loss probe is due\n"),
+        Some(ProbeStanding::Due) => out.put("  a tail loss probe is due\n"),
         Some(ProbeStanding::Out(upto)) => {
-            writeln!(out, "  a tail loss probe was sent, up to {upto}")
+            out.say("  a tail loss probe was sent, up to {}\n", &[upto]);
         }
         Some(ProbeStanding::Waits(wait)) if is_outstanding => {
             let from = earliest(scene, wait);
-            writeln!(out, "  a tail loss probe may come from {from} on")
+            out.put("  a tail loss probe may come from ");
+            out.show(&from);
+            out.put(" on\n");
         }
-        _ => Ok(()),
+        _ => {}
     }
 }
 
@@ -155,34 +149,30 @@ pub(crate) fn is_known_of_probe(scene: &Scene, it: Expiring, known: Known) -> bo
 }
 
 /// Why a segment isn't the probe that is due, or was before.
-pub(crate) fn say_probe(
-    out: &mut String,
-    it: Building,
-    standing: Standing,
-) -> Result<(), OutOfMemory> {
+pub(crate) fn say_probe(out: &mut Sheet, it: Building, standing: Standing) {
     let sent = it.endpoint.snd_max();
     match (standing.probe, standing.reported) {
-        (Probe::Nothing, _) => Ok(()),
-        (Probe::Due, Some(position)) if is_tail(it) => writeln!(
-            out,
-            "a tail loss probe is due, but may not have position {position}, which SACK blocks report"
+        (Probe::Nothing, _) => {}
+        (Probe::Due, Some(position)) if is_tail(it) => out.say(
+            "a tail loss probe is due, but may not have position {}, which SACK blocks report\n",
+            &[position],
         ),
-        (Probe::Due, _) => writeln!(
-            out,
-            "a tail loss probe is due, but has to end at {sent}, or to begin there"
+        (Probe::Due, _) => out.say(
+            "a tail loss probe is due, but has to end at {}, or to begin there\n",
+            &[sent],
         ),
         (Probe::Out(upto), _) => say_sent(out, upto, it.endpoint),
     }
 }
 
 // When the next probe may be sent, after the last one, which ended at this position.
-fn say_sent(out: &mut String, upto: u64, endpoint: &Endpoint) -> Result<(), OutOfMemory> {
+fn say_sent(out: &mut Sheet, upto: u64, endpoint: &Endpoint) {
     let una = endpoint.stream.snd_una;
-    writeln!(
-        out,
-        "a tail loss probe was sent: the next one has to wait until all below {upto} is acknowledged, and SND.UNA is \
-{una}"
-    )
+    out.say(
+        "a tail loss probe was sent: the next one has to wait until all below {} is acknowledged, and SND.UNA is \
+{}\n",
+        &[upto, una],
+    );
 }
 
 /// Whether a segment ends with all that was sent.

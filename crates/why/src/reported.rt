@@ -3,57 +3,50 @@
 use crate::late::describe_touched;
 use crate::numbers::position;
 use crate::scene::Scene;
-use case_forms::{OutOfMemory, Wire};
+use case_forms::Wire;
 use endpoint_state::Endpoint;
 use flights::Untrue;
+use plain_words::Sheet;
 use segment::sack_block;
 use spec_tcp::Emission;
 
 /// Writes why the blocks of a segment aren't true.
-pub(crate) fn untrue(
-    out: &mut String,
-    scene: &Scene,
-    made: &Emission,
-    wire: &Wire,
-) -> Result<(), OutOfMemory> {
-    describe_touched(out, scene)?;
+pub(crate) fn untrue(out: &mut Sheet, scene: &Scene, made: &Emission, wire: &Wire) {
+    describe_touched(out, scene);
     let (id, bytes) = (made.sender, wire.bytes.as_slice());
     let Some(endpoint) = scene.world.body(id.host).endpoint_at(id.number) else {
-        return Ok(());
+        return;
     };
     match scene.flights.why_untrue(id, endpoint, bytes) {
-        Some(Untrue::NotPermitted) => out.push_str(
+        Some(Untrue::NotPermitted) => out.put(
             "it has a SACK block, though the peer's SYN doesn't permit any\n",
         ),
         Some(Untrue::Block(place)) => say_block(out, endpoint, bytes, place),
-        None => Ok(()),
+        None => {}
     }
 }
 
 // Writes what the block in this place, counted from 0, reports.
-fn say_block(
-    out: &mut String,
-    endpoint: &Endpoint,
-    bytes: &[u8],
-    place: usize,
-) -> Result<(), OutOfMemory> {
+fn say_block(out: &mut Sheet, endpoint: &Endpoint, bytes: &[u8], place: usize) {
     let Some(block) = sack_block(bytes, place) else {
-        return Ok(());
+        return;
     };
     let (number, next) = (place.saturating_add(1), endpoint.rcv_nxt());
     let left = position(block.left, next, endpoint.irs);
     let right = position(block.right, next, endpoint.irs);
     match (left, right) {
-        (Some(left), Some(right)) if left < right => writeln!(
-            out,
-            "block {number} reports the positions {left} to {}; from RCV.NXT on, which is {next}, the endpoint doesn't \
-hold all of them",
-            right.saturating_sub(1)
+        (Some(left), Some(right)) if left < right => out.say(
+            "block {} reports the positions {} to {}; from RCV.NXT on, which is {}, the endpoint doesn't \
+hold all of them\n",
+            &[number as u64, left, right.saturating_sub(1), next],
         ),
-        _ => writeln!(
-            out,
-            "block {number} reports no positions: its edges are the numbers {} and {}",
-            block.left.0, block.right.0
+        _ => out.say(
+            "block {} reports no positions: its edges are the numbers {} and {}\n",
+            &[
+                number as u64,
+                u64::from(block.left.0),
+                u64::from(block.right.0),
+            ],
         ),
     }
 }

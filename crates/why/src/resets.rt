@@ -1,7 +1,8 @@
 //! A reset that is built, and the segment that it answers.
 
 use crate::scene::{Object, Scene};
-use case_forms::{Event, Host, Label, OutOfMemory, SegmentPlan, Step};
+use case_forms::{Event, Host, Label, SegmentPlan, Step};
+use plain_words::Sheet;
 use segment::{Flag, Segment};
 use std::fmt;
 
@@ -62,36 +63,35 @@ struct Shown<'c> {
 
 /// Writes which segment came before the reset that the step builds, and what it asks for, if it asks for no reset or
 /// for another one.
-pub(crate) fn say_reset(out: &mut String, scene: &Scene) -> Result<(), OutOfMemory> {
+pub(crate) fn say_reset(out: &mut Sheet, scene: &Scene) {
     if let Some(reset) = answered_reset(scene) {
-        return writeln!(
-            out,
-            "the last segment that arrived at these ports, in line {reset}, is a reset"
+        out.say(
+            "the last segment that arrived at these ports, in line {}, is a reset\n",
+            &[reset],
         );
+        return;
     }
     match wrong_reset(scene) {
         Some((asking, reset)) => say_numbers(out, scene, asking, reset),
-        None => Ok(()),
+        None => {}
     }
 }
 
-fn say_numbers(
-    out: &mut String,
-    scene: &Scene,
-    asking: Shown,
-    reset: Shown,
-) -> Result<(), OutOfMemory> {
+fn say_numbers(out: &mut Sheet, scene: &Scene, asking: Shown, reset: Shown) {
     let (line, wanted) = (asking.line, ResetNumbers::answering(asking.seg));
     let section = match scene.object() {
         Object::Building(it) if !it.endpoint.state.is_closed() => "3.10.7",
         _ => "3.10.7.1",
     };
-    write!(
-        out,
-        "the segment of line {line} asks for a reset with {wanted} (RFC 9293, {section}); "
-    )?;
+    out.say("the segment of line {} asks for a reset with ", &[line]);
+    out.show(&wanted);
+    out.put(" (RFC 9293, ");
+    out.put(section);
+    out.put("); ");
     let (line, numbers) = (reset.line, ResetNumbers::of(reset.seg));
-    writeln!(out, "line {line} has {numbers}")
+    out.say("line {} has ", &[line]);
+    out.show(&numbers);
+    out.put("\n");
 }
 
 /// The line of the reset that arrived before the step builds one at the same ports. None: it builds none, or the last

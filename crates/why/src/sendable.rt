@@ -1,7 +1,8 @@
 //! What an endpoint could send.
 
-use case_forms::{OutOfMemory, POSITIONS};
+use case_forms::POSITIONS;
 use endpoint_state::Endpoint;
+use plain_words::Sheet;
 use window_rules::offered_edge;
 
 /// How many bytes that it hasn't sent an endpoint could send: they wait, the peer's window is open, and cwnd has room.
@@ -19,14 +20,14 @@ pub(crate) fn sendable_bytes(endpoint: &Endpoint) -> u64 {
 }
 
 /// Writes that the peer's window is open and what could be sent, if that is so.
-pub(crate) fn say_sendable(out: &mut String, endpoint: &Endpoint) -> Result<(), OutOfMemory> {
+pub(crate) fn say_sendable(out: &mut Sheet, endpoint: &Endpoint) {
     let (bytes, sent) = (sendable_bytes(endpoint), endpoint.snd_max());
     if bytes == 0 {
-        return Ok(());
+        return;
     }
     let (wnd, end) = (endpoint.window.snd_wnd, sent.saturating_add(bytes));
-    writeln!(
-        out,
-        "the window is open: SND.WND is {wnd}, and {bytes} bytes could be sent, from {sent} up to {end}"
-    )
+    out.say(
+        "the window is open: SND.WND is {}, and {} bytes could be sent, from {} up to {}\n",
+        &[u64::from(wnd), bytes, sent, end],
+    );
 }

@@ -1,18 +1,22 @@
 //! What leads from one state of a connection to the next.
 
-use case_forms::{OutOfMemory, State};
+use case_forms::State;
 use endpoint_state::Endpoint;
 use line_fields::state_name;
+use plain_words::Sheet;
 
 /// Writes what leads out of an endpoint's state, and how far its FIN is from being acknowledged.
-pub(crate) fn say_way_out(out: &mut String, endpoint: &Endpoint) -> Result<(), OutOfMemory> {
+pub(crate) fn say_way_out(out: &mut Sheet, endpoint: &Endpoint) {
     let (name, way) = (state_name(endpoint.state), way_out(endpoint.state));
-    write!(out, "from {name}, {way}")?;
+    out.put("from ");
+    out.put(name);
+    out.put(", ");
+    out.put(way);
     let (una, fin) = (endpoint.stream.snd_una, endpoint.stream.accepted.end());
     if endpoint.stream.ended && una <= fin {
-        write!(out, "; its FIN is at {fin}, and SND.UNA is {una}")?;
+        out.say("; its FIN is at {}, and SND.UNA is {}", &[fin, una]);
     }
-    out.push_str("\n")
+    out.put("\n");
 }
 
 // What leads out of a state (RFC 9293, 3.3.2).

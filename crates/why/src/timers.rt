@@ -5,60 +5,60 @@ use crate::scene::{Expiring, Scene};
 use crate::sendable::say_sendable;
 use crate::states::say_way_out;
 use crate::{probes, undoing};
-use case_forms::{Extras, OutOfMemory, Recovery, RecoveryChange, Timer};
+use case_forms::{Extras, Recovery, RecoveryChange, Timer};
 use endpoint::{greatest_recovery, greatest_values};
 use endpoint_state::Endpoint;
 use flights::Standing;
-use plain_words::word_if;
+use plain_words::{Sheet, word_if};
 
 /// The windows chosen at an expiry of rto, next to the greatest ones.
-pub(crate) fn growth(out: &mut String, scene: &Scene, it: Expiring) -> Result<(), OutOfMemory> {
+pub(crate) fn growth(out: &mut Sheet, scene: &Scene, it: Expiring) {
     let Extras::Two(cwnd, ssthresh) = scene.named().extras else {
-        return Ok(());
+        return;
     };
     let endpoint = it.endpoint;
     let (most, highest) = greatest_values(endpoint, scene.moment());
     let (flight, backoffs) = (endpoint.flight(), endpoint.backoffs);
-    write!(
-        out,
-        "the step chooses cwnd {cwnd} (the greatest is {most}) and ssthresh {ssthresh} (the greatest is {highest})"
-    )?;
-    writeln!(
-        out,
-        "; in flight {flight}, expiries since a new acknowledgment {backoffs}"
-    )
+    out.say(
+        "the step chooses cwnd {} (the greatest is {}) and ssthresh {} (the greatest is {})",
+        &[u64::from(cwnd), most, u64::from(ssthresh), highest],
+    );
+    out.say(
+        "; in flight {}, expiries since a new acknowledgment {}\n",
+        &[flight, u64::from(backoffs)],
+    );
 }
 
 /// Why a timer can't expire at all.
-pub(crate) fn off(out: &mut String, scene: &Scene, it: Expiring) -> Result<(), OutOfMemory> {
+pub(crate) fn off(out: &mut Sheet, scene: &Scene, it: Expiring) {
     match it.timer {
         Timer::Rto => {
             let (una, sent) = (it.endpoint.stream.snd_una, it.endpoint.snd_max());
-            writeln!(
-                out,
-                "the timer is off: SND.UNA {una}, sent up to {sent}; a SYN, data or a FIN arms it"
-            )
+            out.say(
+                "the timer is off: SND.UNA {}, sent up to {}; a SYN, data or a FIN arms it\n",
+                &[una, sent],
+            );
         }
         Timer::Persist => persist_off(out, it.endpoint),
         Timer::Msl2 => {
-            out.push_str("the timer is off: it is armed on entering TIME-WAIT\n")?;
-            say_way_out(out, it.endpoint)
+            out.put("the timer is off: it is armed on entering TIME-WAIT\n");
+            say_way_out(out, it.endpoint);
         }
         Timer::Giveup => giveup_off(out, it.endpoint),
         Timer::Pto => probes::off(out, scene, it),
     }
 }
 
-fn persist_off(out: &mut String, endpoint: &Endpoint) -> Result<(), OutOfMemory> {
+fn persist_off(out: &mut Sheet, endpoint: &Endpoint) {
     let (stream, wnd) = (&endpoint.stream, endpoint.window.snd_wnd);
     if endpoint.timers.persist_armed.is_none() {
-        writeln!(
-            out,
-            "the timer is off: a window of 0 arms it, and SND.WND is {wnd}"
-        )?;
+        out.say(
+            "the timer is off: a window of 0 arms it, and SND.WND is {}\n",
+            &[u64::from(wnd)],
+        );
         return say_sendable(out, endpoint);
     }
-    out.push_str("the timer is armed, but ")?;
+    out.put("the timer is armed, but ");
     if !endpoint.is_up() {
         return handshake(out, endpoint);
     }
@@ -68,22 +68,24 @@ fn persist_off(out: &mut String, endpoint: &Endpoint) -> Result<(), OutOfMemory>
     } else {
         "no FIN"
     };
-    writeln!(
-        out,
-        "there is nothing to probe with: SND.UNA {una}, accepted from the program up to {accepted}, and {fin}"
-    )
+    out.say(
+        "there is nothing to probe with: SND.UNA {}, accepted from the program up to {}, and ",
+        &[una, accepted],
+    );
+    out.put(fin);
+    out.put("\n");
 }
 
 /// Writes that the handshake isn't done.
-pub(crate) fn handshake(out: &mut String, endpoint: &Endpoint) -> Result<(), OutOfMemory> {
+pub(crate) fn handshake(out: &mut Sheet, endpoint: &Endpoint) {
     let (una, next) = (endpoint.stream.snd_una, endpoint.rcv_nxt());
-    writeln!(
-        out,
-        "the handshake isn't done: SND.UNA {una}, RCV.NXT {next}; both have to be at least 1"
-    )
+    out.say(
+        "the handshake isn't done: SND.UNA {}, RCV.NXT {}; both have to be at least 1\n",
+        &[una, next],
+    );
 }
 
-fn giveup_off(out: &mut String, endpoint: &Endpoint) -> Result<(), OutOfMemory> {
+fn giveup_off(out: &mut Sheet, endpoint: &Endpoint) {
     let (expiries, flight) = (endpoint.unanswered_expiries, endpoint.flight());
     let not = word_if(!endpoint.closed, "not ");
     let persist = if endpoint.timers.persist_armed.is_some() {
@@ -91,15 +93,19 @@ fn giveup_off(out: &mut String, endpoint: &Endpoint) -> Result<(), OutOfMemory> 
     } else {
         "off; one of the two is needed"
     };
-    writeln!(
-        out,
-        "expiries since a segment was processed: {expiries}, three are needed; outstanding: {flight} positions, \
-and the persist timer is {persist}\nor else FIN-WAIT-2 with a closed socket: the socket is {not}closed"
-    )
+    out.say(
+        "expiries since a segment was processed: {}, three are needed; outstanding: {} positions, \
+and the persist timer is ",
+        &[u64::from(expiries), flight],
+    );
+    out.put(persist);
+    out.put("\nor else FIN-WAIT-2 with a closed socket: the socket is ");
+    out.put(not);
+    out.put("closed\n");
 }
 
 /// The moment from which on a timer may expire.
-pub(crate) fn early(out: &mut String, scene: &Scene, it: Expiring) -> Result<(), OutOfMemory> {
+pub(crate) fn early(out: &mut Sheet, scene: &Scene, it: Expiring) {
     let (timers, header, moment) = (&it.endpoint.timers, scene.header(), scene.moment());
     let (armed, time) = match it.timer {
         Timer::Rto => (timers.rto_armed, timers.rto),
@@ -109,62 +115,51 @@ pub(crate) fn early(out: &mut String, scene: &Scene, it: Expiring) -> Result<(),
     };
     let (since, grain) = (armed.unwrap_or(0), header.grain);
     let earliest = since.saturating_add(time).saturating_sub(grain).max(since);
-    write!(
-        out,
-        "armed since {since}, it runs for {time} and may expire a clock tick ({grain}) early: "
-    )?;
-    writeln!(out, "from {earliest} on; the step's moment is {moment}")?;
+    out.say(
+        "armed since {}, it runs for {} and may expire a clock tick ({}) early: ",
+        &[since, time, grain],
+    );
+    out.say("from {} on; the step's moment is {}\n", &[earliest, moment]);
     match it.timer {
         Timer::Rto => say_unrestarted(out, scene, time),
-        Timer::Persist | Timer::Msl2 | Timer::Giveup | Timer::Pto => Ok(()),
+        Timer::Persist | Timer::Msl2 | Timer::Giveup | Timer::Pto => {}
     }
 }
 
 /// From when on the timer, which runs for this time, could expire without a restart, if the step is then on time.
-pub(crate) fn say_unrestarted(
-    out: &mut String,
-    scene: &Scene,
-    time: u64,
-) -> Result<(), OutOfMemory> {
+pub(crate) fn say_unrestarted(out: &mut Sheet, scene: &Scene, time: u64) {
     let Some(since) = scene.unrestarted() else {
-        return Ok(());
+        return;
     };
     let earliest = since
         .saturating_add(time)
         .saturating_sub(scene.header().grain);
-    writeln!(
-        out,
-        "if no new acknowledgment had restarted it, it would be armed since {since} and could expire from {earliest} on"
-    )
+    out.say(
+        "if no new acknowledgment had restarted it, it would be armed since {} and could expire from {} on\n",
+        &[since, earliest],
+    );
 }
 
 /// Why fast recovery may not begin, or not with these windows, or may not be undone.
-pub(crate) fn recovery(
-    out: &mut String,
-    scene: &Scene,
-    endpoint: &Endpoint,
-    it: Recovery,
-) -> Result<(), OutOfMemory> {
+pub(crate) fn recovery(out: &mut Sheet, scene: &Scene, endpoint: &Endpoint, it: Recovery) {
     if it.change == RecoveryChange::IsUndone {
         return undoing::say_needed(out, scene, endpoint);
     }
     let profile = endpoint.control.profile;
     if !profile.counts_duplicates() {
-        return out.push_str("in flight: 0; fast recovery begins only if something is in flight\n");
+        return out.put("in flight: 0; fast recovery begins only if something is in flight\n");
     }
     match scene.standing {
-        Some(standing) => say_needed(out, scene, endpoint, standing)?,
-        None => say_duplicates(out, endpoint)?,
+        Some(standing) => say_needed(out, scene, endpoint, standing),
+        None => say_duplicates(out, endpoint),
     }
     if profile.bounds_windows() {
         recovery_windows(out, endpoint, it, scene.moment())
-    } else {
-        Ok(())
-    }
+    } else {}
 }
 
 // How many duplicate acknowledgments arrived, where nothing else lets fast recovery begin.
-fn say_duplicates(out: &mut String, endpoint: &Endpoint) -> Result<(), OutOfMemory> {
+fn say_duplicates(out: &mut Sheet, endpoint: &Endpoint) {
     let values = &endpoint.control.values;
     let (dup, flight) = (values.dup, endpoint.flight());
     let fast = if values.fast {
@@ -172,50 +167,42 @@ fn say_duplicates(out: &mut String, endpoint: &Endpoint) -> Result<(), OutOfMemo
     } else {
         "not in fast recovery"
     };
-    writeln!(
-        out,
-        "duplicate acknowledgments: {dup}, three are needed; in flight: {flight}, {fast}"
-    )
+    out.say(
+        "duplicate acknowledgments: {}, three are needed; in flight: {}, ",
+        &[u64::from(dup), flight],
+    );
+    out.put(fast);
+    out.put("\n");
 }
 
 // What lets fast recovery begin if both SYNs permitted SACK.
-fn say_needed(
-    out: &mut String,
-    scene: &Scene,
-    endpoint: &Endpoint,
-    standing: Standing,
-) -> Result<(), OutOfMemory> {
+fn say_needed(out: &mut Sheet, scene: &Scene, endpoint: &Endpoint, standing: Standing) {
     if let Some(upto) = standing.recovers_upto {
         let una = endpoint.stream.snd_una;
-        writeln!(
-            out,
-            "the last recovery hasn't ended: it ends once all below {upto} is acknowledged, and SND.UNA is {una}"
-        )?;
+        out.say(
+            "the last recovery hasn't ended: it ends once all below {} is acknowledged, and SND.UNA is {}\n",
+            &[upto, una],
+        );
         return undoing::say_undoable(out, scene);
     }
     let (dup, flight) = (endpoint.control.values.dup, endpoint.flight());
-    writeln!(
-        out,
-        "duplicate acknowledgments: {dup}, three are needed unless something is lost; in flight: {flight}"
-    )?;
+    out.say(
+        "duplicate acknowledgments: {}, three are needed unless something is lost; in flight: {}\n",
+        &[u64::from(dup), flight],
+    );
     if 2 < dup {
-        return Ok(());
+        return;
     }
-    out.push_str("first in flight: ")?;
-    say_loss(out, scene.header().grain, standing)
+    out.put("first in flight: ");
+    say_loss(out, scene.header().grain, standing);
 }
 
-fn recovery_windows(
-    out: &mut String,
-    endpoint: &Endpoint,
-    it: Recovery,
-    moment: u64,
-) -> Result<(), OutOfMemory> {
+fn recovery_windows(out: &mut Sheet, endpoint: &Endpoint, it: Recovery, moment: u64) {
     let (cwnd, ssthresh) = (it.cwnd, it.ssthresh);
     let (most, highest) = greatest_recovery(endpoint, ssthresh, moment);
-    writeln!(
-        out,
-        "the step chooses ssthresh {ssthresh} (the greatest is {highest}) and cwnd {cwnd} (the greatest with \
-that ssthresh is {most})"
-    )
+    out.say(
+        "the step chooses ssthresh {} (the greatest is {}) and cwnd {} (the greatest with \
+that ssthresh is {})\n",
+        &[u64::from(ssthresh), highest, u64::from(cwnd), most],
+    );
 }

@@ -2,7 +2,8 @@
 
 use crate::late::describe_touched;
 use crate::scene::{Scene, first_extra};
-use case_forms::{Event, Host, Label, OutOfMemory, Wire};
+use case_forms::{Event, Host, Label, Wire};
+use plain_words::Sheet;
 use segment::{TimestampPair, timestamps};
 use seqno::Word;
 use spec_flights::{Clocks, Echoable};
@@ -14,55 +15,38 @@ fn stamps_of(wire: &Wire) -> Option<TimestampPair> {
 }
 
 /// Writes what a segment echoes, and what it may echo. `number`: the number under which it was built.
-pub(crate) fn echo(
-    out: &mut String,
-    scene: &Scene,
-    made: &Emission,
-    number: u32,
-    wire: &Wire,
-) -> Result<(), OutOfMemory> {
-    describe_touched(out, scene)?;
+pub(crate) fn echo(out: &mut Sheet, scene: &Scene, made: &Emission, number: u32, wire: &Wire) {
+    describe_touched(out, scene);
     let Some(TimestampPair { echo, .. }) = stamps_of(wire) else {
-        return out.push_str("it has no timestamps, though both SYNs had them\n");
+        return out.put("it has no timestamps, though both SYNs had them\n");
     };
     match scene.flights.echoable(made.sender, number) {
         Some(echoable) => say_echoable(out, scene, made, echo, echoable),
-        None => Ok(()),
+        None => {}
     }
 }
 
 // Writes which timestamps a segment may echo that echoes this one.
-fn say_echoable(
-    out: &mut String,
-    scene: &Scene,
-    made: &Emission,
-    echo: Word,
-    echoable: Echoable,
-) -> Result<(), OutOfMemory> {
+fn say_echoable(out: &mut Sheet, scene: &Scene, made: &Emission, echo: Word, echoable: Echoable) {
     let (echo, from, upto) = (echo.0, echoable.from, echoable.upto);
-    write!(
-        out,
-        "it echoes the timestamp {echo}; when it was built, the endpoint had taken "
-    )?;
-    say_come(out, scene, made, from)?;
+    out.say(
+        "it echoes the timestamp {}; when it was built, the endpoint had taken ",
+        &[u64::from(echo)],
+    );
+    say_come(out, scene, made, from);
     if from != upto {
-        out.push_str(", and what it had dropped may be echoed, too, up to ")?;
-        say_come(out, scene, made, upto)?;
+        out.put(", and what it had dropped may be echoed, too, up to ");
+        say_come(out, scene, made, upto);
     }
-    out.push_str("\n")
+    out.put("\n");
 }
 
 // Writes a timestamp, and the line in which it came to the sender of a segment, if one is found.
-fn say_come(
-    out: &mut String,
-    scene: &Scene,
-    made: &Emission,
-    value: Word,
-) -> Result<(), OutOfMemory> {
+fn say_come(out: &mut Sheet, scene: &Scene, made: &Emission, value: Word) {
     let number = value.0;
     match come_in(scene, made, value) {
-        Some(line) => write!(out, "{number} (line {line})"),
-        None => write!(out, "{number}"),
+        Some(line) => out.say("{} (line {})", &[u64::from(number), line]),
+        None => out.number(u64::from(number)),
     }
 }
 
@@ -88,16 +72,10 @@ fn is_for(made: &Emission, host: Host, wire: &Wire) -> bool {
 
 /// Writes the timestamps of two segments of which the one that was built later has the older. `number`: the number
 /// under which the one of the step was built.
-pub(crate) fn clock(
-    out: &mut String,
-    scene: &Scene,
-    made: &Emission,
-    number: u32,
-    wire: &Wire,
-) -> Result<(), OutOfMemory> {
-    describe_touched(out, scene)?;
+pub(crate) fn clock(out: &mut Sheet, scene: &Scene, made: &Emission, number: u32, wire: &Wire) {
+    describe_touched(out, scene);
     let (Some(stamps), Some(newest)) = (stamps_of(wire), clocks_of(scene, made).newest) else {
-        return Ok(());
+        return;
     };
     let (own, other) = (stamps.value.0, newest.value.0);
     let order = if newest.number < number {
@@ -105,13 +83,15 @@ pub(crate) fn clock(
     } else {
         "after"
     };
-    write!(
-        out,
-        "its timestamp is {own}, and {other} is that of a segment that was built {order} it"
-    )?;
+    out.say(
+        "its timestamp is {}, and {} is that of a segment that was built ",
+        &[u64::from(own), u64::from(other)],
+    );
+    out.put(order);
+    out.put(" it");
     match sent_in(scene, newest.number) {
-        Some(line) => writeln!(out, " (line {line})"),
-        None => out.push_str("\n"),
+        Some(line) => out.say(" (line {})\n", &[line]),
+        None => out.put("\n"),
     }
 }
 
@@ -136,22 +116,17 @@ fn sent_in(scene: &Scene, number: u32) -> Option<u64> {
 
 /// Writes why the timestamp of a segment is no reason for an endpoint to drop it, if both SYNs had one. A reset may not
 /// be dropped for its timestamp at all.
-pub(crate) fn not_outdated(
-    out: &mut String,
-    scene: &Scene,
-    m: &Emission,
-) -> Result<(), OutOfMemory> {
+pub(crate) fn not_outdated(out: &mut Sheet, scene: &Scene, m: &Emission) {
     let Some(id) = scene.touched else {
-        return Ok(());
+        return;
     };
     let clocks = scene.flights.clocks_at(id.host, id.number);
     let stamps = timestamps(m.bytes.as_slice());
     match (clocks.most, stamps) {
-        (Some(most), Some(stamps)) if clocks.own && clocks.peers && !m.flags.rst => writeln!(
-            out,
-            "its timestamp {} is no reason to drop it: it isn't older than the newest that came, which is {}",
-            stamps.value.0, most.0
+        (Some(most), Some(stamps)) if clocks.own && clocks.peers && !m.flags.rst => out.say(
+            "its timestamp {} is no reason to drop it: it isn't older than the newest that came, which is {}\n",
+            &[u64::from(stamps.value.0), u64::from(most.0)],
         ),
-        _ => Ok(()),
+        _ => {}
     }
 }

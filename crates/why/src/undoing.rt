@@ -1,12 +1,10 @@
 //! Why a recovery may not be undone.
 
 use crate::scene::{Scene, witness_line};
-use case_forms::{
-    Event, Host, Label, OutOfMemory, Recovery, RecoveryChange, SegmentPlan, Step, Timer,
-};
+use case_forms::{Event, Host, Label, Recovery, RecoveryChange, SegmentPlan, Step, Timer};
 use endpoint_state::Endpoint;
 use flights::ProbeStanding;
-use plain_words::{Known, word_if};
+use plain_words::{Known, Sheet, word_if};
 
 // What a step did to a recovery.
 #[derive(Clone, Copy, PartialEq, Eq)]
@@ -144,64 +142,52 @@ fn last_of(scene: &Scene, endpoint: &Endpoint) -> Option<Last> {
 }
 
 /// Which recovery the step undoes, and what would have shown that it wasn't needed.
-pub(crate) fn say_needed(
-    out: &mut String,
-    scene: &Scene,
-    endpoint: &Endpoint,
-) -> Result<(), OutOfMemory> {
+pub(crate) fn say_needed(out: &mut Sheet, scene: &Scene, endpoint: &Endpoint) {
     let Some(last) = last_of(scene, endpoint) else {
-        return out.push_str(
-            "there is nothing to undo: no F step and no expiry of rto came before\n",
-        );
+        return out.put("there is nothing to undo: no F step and no expiry of rto came before\n");
     };
     let line = last.line;
     match last.did {
         Did::Undid => {
-            return writeln!(
-                out,
-                "there is nothing to undo: witness line {line} undid the last recovery"
+            out.say(
+                "there is nothing to undo: witness line {} undid the last recovery\n",
+                &[line],
             );
+            return;
         }
-        Did::Began => write!(out, "fast recovery began in witness line {line}")?,
-        Did::Expired => write!(
-            out,
-            "the recovery began with the expiry in witness line {line}"
-        )?,
+        Did::Began => out.say("fast recovery began in witness line {}", &[line]),
+        Did::Expired => out.say(
+            "the recovery began with the expiry in witness line {}",
+            &[line],
+        ),
     }
     match last.again {
         Some(again) => say_shown(out, scene, endpoint, last, again),
-        None => out.push_str(
+        None => out.put(
             ", and nothing was sent again since then, which an acknowledgment could answer\n",
         ),
     }
 }
 
 // Which acknowledgments would have shown that a recovery wasn't needed.
-fn say_shown(
-    out: &mut String,
-    scene: &Scene,
-    endpoint: &Endpoint,
-    last: Last,
-    again: Again,
-) -> Result<(), OutOfMemory> {
+fn say_shown(out: &mut Sheet, scene: &Scene, endpoint: &Endpoint, last: Last, again: Again) {
     let (Again { line, pos }, point) = (again, last.point);
-    writeln!(
-        out,
-        "; witness line {line} was the first to send something again, from position {pos} on"
-    )?;
-    writeln!(
-        out,
-        "no acknowledgment above {pos} echoes an earlier timestamp than that of this segment"
-    )?;
+    out.say(
+        "; witness line {} was the first to send something again, from position {} on\n",
+        &[line, pos],
+    );
+    out.say(
+        "no acknowledgment above {} echoes an earlier timestamp than that of this segment\n",
+        &[pos],
+    );
     if last.did == Did::Expired && is_selective(scene) {
         let una = endpoint.stream.snd_una;
-        writeln!(
-            out,
-            "none below {point} that acknowledges more than before the expiry delivers what was built before the \
-expiry; SND.UNA is {una}"
-        )?;
+        out.say(
+            "none below {} that acknowledges more than before the expiry delivers what was built before the \
+expiry; SND.UNA is {}\n",
+            &[point, una],
+        );
     }
-    Ok(())
 }
 
 // Whether both SYNs of the endpoint that the step touches permitted SACK.
@@ -219,9 +205,9 @@ pub(crate) fn may_be_undone(scene: &Scene) -> bool {
 }
 
 /// Writes that the recovery may be undone that refuses the step, if that's so.
-pub(crate) fn say_undoable(out: &mut String, scene: &Scene) -> Result<(), OutOfMemory> {
+pub(crate) fn say_undoable(out: &mut Sheet, scene: &Scene) {
     let undoable = may_be_undone(scene);
-    out.push_str(word_if(
+    out.put(word_if(
         undoable,
         "that recovery wasn't needed, so a U step may undo it first\n",
     ))

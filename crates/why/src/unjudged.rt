@@ -2,19 +2,19 @@
 
 use crate::losses::may_begin;
 use crate::scene::{Object, Scene};
-use case_forms::{Judged, OutOfMemory, RecoveryChange, Version};
+use case_forms::{Judged, RecoveryChange, Version};
 use endpoint_state::Endpoint;
-use plain_words::{Control, LEVEL_RULES, word_if};
+use plain_words::{Control, LEVEL_RULES, Sheet, word_if};
 use replayed::{Reason, old_data_reason};
 use verdict::Rule;
 
 /// Writes which level leaves the refusal unjudged, if the header's level doesn't and another one does.
-pub(crate) fn say_unjudged(out: &mut String, scene: &Scene, rule: Rule) -> Result<(), OutOfMemory> {
+pub(crate) fn say_unjudged(out: &mut Sheet, scene: &Scene, rule: Rule) {
     let header = scene.header();
     let level = match (header.congestion, lenient_level(scene, rule)) {
         (Judged::Full, Some(Judged::Recovery)) => "recovery",
         (Judged::Full | Judged::Recovery, Some(Judged::NoControl)) => "none",
-        _ => return Ok(()),
+        _ => return,
     };
     let (before, after) = match header.version {
         Version::One | Version::Two | Version::Three => ("in version 4, the header line ", ""),
@@ -33,11 +33,15 @@ pub(crate) fn say_unjudged(out: &mut String, scene: &Scene, rule: Rule) -> Resul
         Rule::OldData | Rule::Recovery if header.version.says_sender() => "",
         _ => "stacks with CUBIC, BBR, SACK or RACK-TLP do this; ",
     };
-    write!(out, "{stacks}{before}")?;
-    writeln!(
-        out,
-        "`congestion {level}`{after} leaves it unjudged{condition}"
-    )
+    out.put(stacks);
+    out.put(before);
+    out.put("`congestion ");
+    out.put(level);
+    out.put("`");
+    out.put(after);
+    out.put(" leaves it unjudged");
+    out.put(condition);
+    out.put("\n");
 }
 
 // The strictest level at which the step doesn't break the rule. None: it breaks it at every level.

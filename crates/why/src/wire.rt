@@ -1,9 +1,9 @@
 //! The rules of lines that show segments.
 
 use crate::scene::{Scene, first_extra};
-use case_forms::{Event, Host, Label, OutOfMemory, Version, Wire};
+use case_forms::{Event, Host, Label, Version, Wire};
 use endpoint::acknowledges;
-use plain_words::{HostName, word_if};
+use plain_words::{HostName, Sheet, word_if};
 use segment::{Flag, Segment};
 use spec_tcp::Emission;
 
@@ -11,39 +11,33 @@ use spec_tcp::Emission;
 const TURN: u64 = 1 << 32;
 
 /// Writes that the host of an O line built no segment of the number that the step names, if that is so.
-pub(crate) fn describe_sent(
-    out: &mut String,
-    scene: &Scene,
-    host: Host,
-) -> Result<(), OutOfMemory> {
+pub(crate) fn describe_sent(out: &mut Sheet, scene: &Scene, host: Host) {
     let (world, number) = (scene.world, first_extra(scene.named().extras));
     if world.made(host, number).is_some() {
-        return Ok(());
+        return;
     }
-    let (host, count) = (HostName(host), world.count());
-    writeln!(
-        out,
-        "{host} built no segment with the number {number}; so far {count} were built at both hosts"
-    )
+    out.show(&HostName(host));
+    out.say(
+        " built no segment with the number {}; so far {} were built at both hosts\n",
+        &[u64::from(number), u64::from(world.count())],
+    );
 }
 
 /// Writes what is wrong with the line that a received segment should copy, if that is no sent segment.
-pub(crate) fn describe_came(
-    out: &mut String,
-    scene: &Scene,
-    host: Host,
-    wire: &Wire,
-) -> Result<(), OutOfMemory> {
+pub(crate) fn describe_came(out: &mut Sheet, scene: &Scene, host: Host, wire: &Wire) {
     let (sender, copied) = (host.other(), u64::from(first_extra(scene.named().extras)));
     if scene.world.sent(sender, copied).is_some() {
-        return Ok(());
+        return;
     }
     let yet = word_if(sender_in(scene, copied) == Some(sender), " used yet; it is");
-    let name = HostName(sender);
-    writeln!(out, "line {copied} isn't{yet} an O line of {name}")?;
+    out.say("line {} isn't", &[copied]);
+    out.put(yet);
+    out.put(" an O line of ");
+    out.show(&HostName(sender));
+    out.put("\n");
     match nearest(scene, sender, wire) {
         Some((line, sent)) => say_nearest(out, line, sent, wire),
-        None => Ok(()),
+        None => {}
     }
 }
 
@@ -103,17 +97,18 @@ fn differing(one: &[u8], other: &[u8]) -> u64 {
 }
 
 // Writes the first byte in which the segment of an O line differs, if one does.
-fn say_nearest(out: &mut String, line: u64, sent: &Wire, shown: &Wire) -> Result<(), OutOfMemory> {
+fn say_nearest(out: &mut Sheet, line: u64, sent: &Wire, shown: &Wire) {
     let (sent, shown) = (sent.bytes.as_slice(), shown.bytes.as_slice());
     let count = differing(sent, shown);
     if count == 0 {
-        return writeln!(out, "line {line} has the same bytes");
+        out.say("line {} has the same bytes\n", &[line]);
+        return;
     }
-    writeln!(
-        out,
-        "line {line} has the same ports, sequence number and length; bytes that differ: {count}"
-    )?;
-    first_difference(out, "byte of the segment", "sent", sent, shown)
+    out.say(
+        "line {} has the same ports, sequence number and length; bytes that differ: {}\n",
+        &[line, count],
+    );
+    first_difference(out, "byte of the segment", "sent", sent, shown);
 }
 
 // The host whose sent segment a line shows. None: it shows none.
@@ -125,12 +120,12 @@ fn sender_in(scene: &Scene, line: u64) -> Option<Host> {
 }
 
 /// Where the segment was sent before.
-pub(crate) fn sent_before(out: &mut String, scene: &Scene, number: u32) -> Result<(), OutOfMemory> {
+pub(crate) fn sent_before(out: &mut Sheet, scene: &Scene, number: u32) {
     let line = shown_before(scene, number);
-    writeln!(
-        out,
-        "segment {number} was already sent in trace line {line}"
-    )
+    out.say(
+        "segment {} was already sent in trace line {}\n",
+        &[u64::from(number), line],
+    );
 }
 
 // The O line that showed a built segment before the step; 0 if there is none.
@@ -147,72 +142,58 @@ fn shown_before(scene: &Scene, number: u32) -> u64 {
 }
 
 /// The bytes in which the received segment and the sent one differ.
-pub(crate) fn copy_differs(
-    out: &mut String,
-    version: Version,
-    m: &Emission,
-    wire: &Wire,
-) -> Result<(), OutOfMemory> {
+pub(crate) fn copy_differs(out: &mut Sheet, version: Version, m: &Emission, wire: &Wire) {
     let (sent, shown) = (m.bytes.as_slice(), wire.bytes.as_slice());
     if sent.len() != shown.len() {
         let (sent, shown) = (sent.len(), shown.len());
-        writeln!(
-            out,
-            "  bytes of the segment: sent {sent}, the line shows {shown}"
-        )?;
+        out.say(
+            "  bytes of the segment: sent {}, the line shows {}\n",
+            &[sent as u64, shown as u64],
+        );
     }
-    first_difference(out, "byte of the segment", "sent", sent, shown)?;
-    differences(out, version, m, m.flags.ack, wire)
+    first_difference(out, "byte of the segment", "sent", sent, shown);
+    differences(out, version, m, m.flags.ack, wire);
 }
 
 /// When the segment was sent and received.
-pub(crate) fn lifetime(out: &mut String, scene: &Scene, m: &Emission) -> Result<(), OutOfMemory> {
+pub(crate) fn lifetime(out: &mut Sheet, scene: &Scene, m: &Emission) {
     let (moment, sent, msl) = (scene.moment(), m.moment, scene.header().msl);
-    writeln!(
-        out,
-        "it arrives at {moment}, it was sent at {sent}, the maximum segment lifetime is {msl}"
-    )
+    out.say(
+        "it arrives at {}, it was sent at {}, the maximum segment lifetime is {}\n",
+        &[moment, sent, msl],
+    );
 }
 
 /// The fields in which the built segment and the line differ, and which other acknowledgment number it may show. In
 /// version 6, a reset in answer to a segment may show ACK.
-pub(crate) fn differs(
-    out: &mut String,
-    version: Version,
-    m: &Emission,
-    wire: &Wire,
-) -> Result<(), OutOfMemory> {
+pub(crate) fn differs(out: &mut Sheet, version: Version, m: &Emission, wire: &Wire) {
     let may = version.says_sender() && m.is_reset_reply && wire.seg.has(Flag::Ack);
-    differences(out, version, m, m.flags.ack || may, wire)?;
+    differences(out, version, m, m.flags.ack || may, wire);
     let is_right = !m.flags.ack || acknowledges(version, wire.seg.ack, m);
     if is_right || !version.says_sender() || m.raised == 0 {
-        return Ok(());
+        return;
     }
     let before = m.ack_seq.0.wrapping_sub((m.raised % TURN) as u32);
-    writeln!(
-        out,
-        "  also permitted: {before}, the number from before the text that was processed at that moment"
-    )
+    out.say(
+        "  also permitted: {}, the number from before the text that was processed at that moment\n",
+        &[u64::from(before)],
+    );
 }
 
 // The fields in which the segment and the line differ; `acks`: the segment acknowledges.
-fn differences(
-    out: &mut String,
-    version: Version,
-    m: &Emission,
-    acks: bool,
-    wire: &Wire,
-) -> Result<(), OutOfMemory> {
+fn differences(out: &mut Sheet, version: Version, m: &Emission, acks: bool, wire: &Wire) {
     for (name, built, shown) in &fields(version, m, acks, &wire.seg) {
         if built != shown {
-            writeln!(out, "  {name}: built {built}, the line shows {shown}")?;
+            out.put("  ");
+            out.put(name);
+            out.say(": built {}, the line shows {}\n", &[*built, *shown]);
         }
     }
     let (built, shown) = (m.payload.as_slice(), wire.seg.payload.as_slice());
-    first_difference(out, "payload byte", "built", built, shown)?;
+    first_difference(out, "payload byte", "built", built, shown);
     match wire.seg.scale {
         Some(shown) => shift_difference(out, m.shift, shown),
-        None => Ok(()),
+        None => {}
     }
 }
 
@@ -248,30 +229,37 @@ fn fields(
     ]
 }
 
-fn shift_difference(out: &mut String, built: Option<u8>, shown: u8) -> Result<(), OutOfMemory> {
+fn shift_difference(out: &mut Sheet, built: Option<u8>, shown: u8) {
     match built {
-        Some(built) if built == shown => Ok(()),
-        Some(built) => writeln!(out, "  window shift: built {built}, the line shows {shown}"),
-        None => writeln!(
-            out,
-            "  window shift: built with none, the line shows {shown}"
+        Some(built) if built == shown => {}
+        Some(built) => out.say(
+            "  window shift: built {}, the line shows {}\n",
+            &[u64::from(built), u64::from(shown)],
+        ),
+        None => out.say(
+            "  window shift: built with none, the line shows {}\n",
+            &[u64::from(shown)],
         ),
     }
 }
 
 /// Writes the first byte that differs. `name` says what the bytes are, and `origin` where the first ones are from.
 pub(crate) fn first_difference(
-    out: &mut String,
+    out: &mut Sheet,
     name: &str,
     origin: &str,
     one: &[u8],
     shown: &[u8],
-) -> Result<(), OutOfMemory> {
+) {
     for (place, (a, b)) in one.iter().zip(shown).enumerate() {
         if a != b {
-            write!(out, "  {name} {place} (from 0): {origin} {a}, ")?;
-            return writeln!(out, "the line shows {b}");
+            out.put("  ");
+            out.put(name);
+            out.say(" {} (from 0): ", &[place as u64]);
+            out.put(origin);
+            out.say(" {}, ", &[u64::from(*a)]);
+            out.say("the line shows {}\n", &[u64::from(*b)]);
+            return;
         }
     }
-    Ok(())
 }
