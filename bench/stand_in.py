@@ -21,7 +21,7 @@ import tempfile
 sys.dont_write_bytecode = True
 sys.path.insert(0, os.path.join(os.path.dirname(os.path.dirname(os.path.abspath(__file__))), "tools"))
 
-from unproved import TOP, kit, module_of
+from unproved import TOP, copy_sources, kit, module_of
 
 FLAGS = """--target=x86_64-unknown-linux-gnu -march=x86-64 -mllvm -no-trap-after-noreturn -ffunction-sections
  -fdata-sections -mllvm -trap-unreachable -mllvm -no-x86-call-frame-opt -mllvm -disable-machine-licm
@@ -80,7 +80,8 @@ def main():
     whole = kit()
     clang = f"{whole}/toolchain/bin/clang"
     with tempfile.TemporaryDirectory() as folder:
-        kept = module_of(words.crate, folder)
+        copy_sources(f"{folder}/copy")
+        kept = module_of(words.crate, folder, f"{folder}/copy")
         text = f"{folder}/kept.ll"
         subprocess.run([clang, "-x", "ir", kept, "-S", "-emit-llvm", "-Xclang", "-disable-llvm-passes", "-o", text],
                        check=True)

@@ -71,7 +71,7 @@ def build_program():
             rows = [line for line in table if needed.intersection(line.partition(":")[0].split()[:1])]
         with open(f"{folder}/crates.txt", "w", encoding="utf-8") as table:
             table.writelines([*rows, "cases: checker line_fields\n"])
-        build("cases", BUILT, "-O0", folder)
+        build("cases", BUILT, folder, "-O0")
 
 
 def expected(pattern):

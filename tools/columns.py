@@ -22,7 +22,7 @@ SCRIPTS = ("tcpwit", "test", "bench/run", "bindings/test", "bindings/c/build", "
            "packaging/lines/tcpwit-*", "stacks/run")
 # The maximum width of lines, by files.
 WIDTHS = (("crates/*/src/**/*.rt", 120), ("crates/*/specs/**/*.antt", 120), ("crates/*/proofs/**/*.antt", 160),
-          ("**/*.py", 120), *((script, 120) for script in SCRIPTS), ("**/*.md", 100))
+          ("tests/**/*.rt.txt", 120), ("**/*.py", 120), *((script, 120) for script in SCRIPTS), ("**/*.md", 100))
 # The beginnings of lines in a page that aren't prose: tables, and blocks of commands, output or texts.
 NO_PROSE = ("|", "    ")
 

@@ -37,6 +37,7 @@ LEFT_OUT = {
     "cat lines/": "needs a cluster",
     "tcpwit check < /usr/share": "needs the installed package",
     "bench/run ": "measures two builds",
+    "(cd ../": "builds in another checkout",
     "python3 bench/stand_in.py": "builds two programs",
     "python3 bench/many_cases.py": "writes a large file",
     "python3 bench/whole.py": "measures built programs",

@@ -35,12 +35,11 @@ WINGS = (
         "#c60",
         300,
         """help recording_parts stack_core recorder two_hosts witness_search plain_words
-        replayed why judging drawing remarks tcpwit_lab c_answers tcpwit_c test_runs test_cases bench_jobs""",
+        replayed why judging drawing remarks tcpwit_lab c_answers tcpwit_c""",
     ),
 )
-# Crates of laws alone, and tests and benchmarks: they have a dashed border.
-DASHED = """spec_tcp_laws spec_merge kept_duties kept_calls kept_flights kept_repeats test_runs test_cases
-bench_jobs""".split()
+# Crates of laws alone: they have a dashed border.
+DASHED = "spec_tcp_laws spec_merge kept_duties kept_calls kept_flights kept_repeats".split()
 # The programs, and the library for C.
 BOLD = "tcpwit tcpwit_lab tcpwit_c".split()
 
@@ -108,7 +107,7 @@ def box(name, color, x, y):
 
 def key(y):
     """What the borders mean."""
-    parts = (("bold", "a program or a library for C"), ("dashed", "laws alone, or tests"))
+    parts = (("bold", "a program or a library for C"), ("dashed", "laws alone"))
     drawn = [f'<text class="key" x="{LEFT}" y="{y}">Each crate is above all that it uses.</text>']
     for place, (kind, meaning) in enumerate(parts):
         x = LEFT + 260 + 240 * place

@@ -20,7 +20,7 @@ TESTS = [
     ("the importer, m to z", "importer", [*PART, "test_[m-z]*.py"]),
     ("the importer, a to l", "importer", [*PART, "test_[a-l]*.py"]),
     ("the runner", "stacks", [*UNIT, "tests.test_runner"]),
-    ("tools", "tools", [*UNIT, "test_edits", "test_budgets", "test_examples", "test_unproved"]),
+    ("tools", "tools", [*UNIT, "test_edits", "test_budgets", "test_examples", "test_runs", "test_unproved"]),
     ("pages", "tools", [*UNIT, "test_docs", "test_pictures"]),
     ("rules", "tools", [*UNIT, "test_rules"]),
     ("schema", "tools", [*UNIT, "test_schema"]),

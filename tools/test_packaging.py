@@ -73,6 +73,7 @@ class Build(unittest.TestCase):
             self.write(f"clone/crates/{name}/src/main.rt", "")
         self.write("clone/crates/tcpwit_c/src/lib.rt", "")
         self.write("clone/crates.txt", "tcpwit:\ntcpwit_lab:\ntcpwit_c staticlib:\n")
+        self.write("clone/tests/programs.txt", "")
         self.stub()
         self.toolchain()
         self.git("init", "--quiet")

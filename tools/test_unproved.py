@@ -16,7 +16,7 @@ TOP = os.path.dirname(os.path.dirname(os.path.abspath(__file__)))
 NO_PROGRAM = 127
 # The files of a repository that the scripts need.
 FOLDERS = ("importer/tcpwit_importer", "stacks/tcpwit_stacks")
-FILES = ("tcpwit", "tcpwit_lab", "tools/unproved.py", "tools/both.main", "importer/tcpwit-import", "stacks/run",
+FILES = ("tcpwit", "tcpwit_lab", "tools/unproved.py", "tools/both.rt.txt", "importer/tcpwit-import", "stacks/run",
          "stacks/scenarios/data-bulk.scenario")
 # A program that answers `judge` without input as tcpwit_lab does, and prints its name for everything else.
 PROGRAM = """#!/bin/sh
@@ -75,6 +75,19 @@ pub(crate) fn run_process<H>(rt: &H) -> u8 {
     run(rt)
 }
 """
+# A test, and what is made of it.
+TEST = """#[test]
+fn two_wait(rt: HostRuntime) {
+    assert!(rt; waited(&rt, rt.alloc()));
+}
+"""
+FUNCTION = """pub(crate) fn two_wait<H: std::process::Abort + std::sync::Wait + std::thread::Threads + Sync>(
+    rt: &H,
+    alloc: std::alloc::Global,
+) {
+    assert!(rt; waited(rt, alloc));
+}
+"""
 # A library that exports one function, and what is made of a test that calls it.
 LIBRARY = '#![tactic(auto)]\n\nmod ends;\n'
 ENDS = '#[unsafe(no_mangle)]\npub extern "C" fn ends(text: &[u8], more: bool) -> u32 {\n'
@@ -97,6 +110,7 @@ class Clone(unittest.TestCase):
         for name in ("tcpwit", "tcpwit_lab"):
             self.write(f"clone/crates/{name}/src/main.rt", "")
         self.write("clone/crates.txt", "tcpwit:\ntcpwit_lab:\n")
+        self.write("clone/tests/programs.txt", "")
         self.write("program", PROGRAM)
         os.mkdir(f"{self.folder}/bin")
 
@@ -107,6 +121,11 @@ class Clone(unittest.TestCase):
         with open(path, "w", encoding="ascii") as file:
             file.write(text)
         os.chmod(path, 0o755)
+
+    def text(self, path):
+        """The text of a file."""
+        with open(path, encoding="ascii") as file:
+            return file.read()
 
     def built(self, *names):
         """Writes programs to where ./tcpwit and ./tcpwit_lab cache them."""
@@ -199,16 +218,35 @@ class Clone(unittest.TestCase):
             self.write(f"clone/crates/{name}/src/main.rt", MAIN)
             self.write(f"clone/crates/{name}/src/words.rt", "use crate::Words;\n")
         self.write("clone/crates.txt", "low:\ntcpwit may_wait=2: low cli\ntcpwit_lab: cli\n")
-        code = "import sys; sys.path.insert(0, 'tools'); import unproved; unproved.copy_with_both('copy')"
+        code = "import sys; sys.path.insert(0, 'tools'); import unproved; unproved.copy_joined('both', 'copy')"
         self.assertEqual(self.run_in_clone(sys.executable, "-c", code), (0, "", ""))
         root = f"{self.top}/copy/crates/both/src"
         self.assertEqual(sorted(os.listdir(root)), ["main.rt", "tcpwit", "tcpwit.rt", "tcpwit_lab", "tcpwit_lab.rt"])
-        for path, text in ((f"{root}/tcpwit.rt", MODULE),
-                           (f"{root}/tcpwit_lab/words.rt", "use crate::tcpwit_lab::Words;\n")):
-            with open(path, encoding="ascii") as file:
-                self.assertEqual(file.read(), text)
-        with open(f"{self.top}/copy/crates.txt", encoding="ascii") as file:
-            self.assertEqual(file.read().splitlines()[-1], "both: cli low")
+        self.assertEqual(self.text(f"{root}/tcpwit.rt"), MODULE)
+        self.assertEqual(self.text(f"{root}/tcpwit_lab/words.rt"), "use crate::tcpwit_lab::Words;\n")
+        self.assertEqual(self.text(f"{self.top}/copy/crates.txt").splitlines()[-1], "both: cli low")
+
+    def test_the_programs_in_tests_are_one(self):
+        """A test is a function that is called by its name, and a change of a source makes a program outdated."""
+        self.write("clone/tests/tests.rt.txt", "mod test_runs;\n")
+        self.write("clone/tests/programs.txt", "# Each program.\ntest_runs: low\ntest_cases:\nbench_jobs:\n")
+        for name in ("test_cases", "test_runs", "bench_jobs"):
+            self.write(f"clone/tests/{name}/main.rt.txt", MAIN)
+        self.write("clone/tests/test_runs/waits.rt.txt", TEST)
+        code = "import sys; sys.path.insert(0, 'tools'); import unproved; unproved.copy_joined('tests', 'copy')"
+        self.assertEqual(self.run_in_clone(sys.executable, "-c", code), (0, "", ""))
+        root = f"{self.top}/copy/crates/tests/src"
+        self.assertEqual(self.text(f"{root}/test_runs/waits.rt"), FUNCTION)
+        self.assertIn('        "waits::two_wait" => crate::test_runs::waits::two_wait(rt, alloc),\n',
+                      self.text(f"{root}/test_runs/all.rt"))
+        self.assertEqual(self.text(f"{root}/bench_jobs.rt"), MODULE.replace("tcpwit", "bench_jobs"))
+        self.assertEqual(self.text(f"{self.top}/copy/crates.txt").splitlines()[-1], "tests: low")
+        self.built("test_runs")
+        code = ("import sys; sys.path.insert(0, 'tools'); import unproved; "
+                "print(unproved.is_current('.built/test_runs', 'test_runs'), *unproved.tests())")
+        for wanted in ("True", "False"):
+            self.assertEqual(self.run_in_clone(sys.executable, "-c", code), (0, f"{wanted} waits::two_wait\n", ""))
+            self.write("clone/tests/test_runs/waits.rt.txt", TEST)
 
     def test_a_build_reports_its_progress(self):
         self.toolchain()

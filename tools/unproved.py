@@ -5,19 +5,22 @@
     python3 tools/unproved.py --object NAME CALLS OUT
     python3 tools/unproved.py --keep NAME ..
 
-NAME is a crate with a `main`, OUT the file of the program. With --object, NAME is a static library, CALLS a file of
-tests that call each function that it exports, and OUT an object file with these functions. With --keep, the program of
-each crate is built as `./tcpwit` builds it, unless a current one exists, and its path is printed. Since `tcpwit` and
-`tcpwit_lab` share most of their code, --keep builds both as one program, which has two names and chooses by its name.
-The status is 127 if there is no program and none can be built.
+NAME is a crate with a `main`, or a program in tests/, and OUT the file of the program. With --object, NAME is a static
+library, CALLS a file of tests that call each function that it exports, and OUT an object file with these functions.
+With --keep, each program is built as `./tcpwit` builds it, unless a current one exists, and its path is printed. Since
+`tcpwit` and `tcpwit_lab` share most of their code, --keep builds both as one program, which has two names and chooses
+by its name. So it does with the programs in tests/, at the same time. The status is 127 if there is no program and none
+can be built.
 
 `rt try` builds a module of the whole program, compiles and runs it, and keeps nothing. This script takes the module
 that `rt try` passes to its compiler, and compiles and links it with the toolchain's own tools. The module has a
 run-time check instead of each proof: if one fails, the program stops instead of continuing with a wrong value. The
 script depends on the folder layout of the November 2026 toolchain.
 """
+import concurrent.futures
 import contextlib
 import fcntl
+import functools
 import glob
 import os
 import pwd
@@ -29,6 +32,8 @@ import tempfile
 import time
 
 TOP = os.path.dirname(os.path.dirname(os.path.abspath(__file__)))
+# The crates, and the programs in tests/, each with the libraries that it uses.
+TABLES = (f"{TOP}/crates.txt", f"{TOP}/tests/programs.txt")
 FLAGS = """--target=x86_64-unknown-linux-gnu -march=x86-64 -ffunction-sections -fdata-sections --no-default-config
  -no-canonical-prefixes -fintegrated-cc1 -c -x ir -fPIE""".split()
 # How many seconds pass between two lines that report that a build goes on.
@@ -39,8 +44,11 @@ INSTALL = ("  Without the toolchain, install the Debian package, which contains 
            "(packaging/README.md).\n"
            "  With the toolchain, add its folder `bin` to PATH. sudo may use another PATH, so run ./{name} once "
            "without sudo.")
-# The programs that are built as one.
-TWINS = ("tcpwit", "tcpwit_lab")
+# The programs that are built as one, and the file of its `main`.
+JOINED = {
+    "both": (("tcpwit", "tcpwit_lab"), "tools/both.rt.txt"),
+    "tests": (("test_cases", "test_runs", "bench_jobs"), "tests/tests.rt.txt"),
+}
 # Saves the module of the whole program, and stops `rt try` there. The first module that `rt try` compiles is a small
 # one.
 KEEPER = """#!/bin/sh
@@ -48,6 +56,24 @@ for word in "$@"; do
   case "$word" in *.bc) if [ "$(stat -c %s "$word")" -gt 100000 ]; then cp "$word" {kept}; exit 1; fi;; esac
 done
 exec {clang} "$@"
+"""
+# A test of `test_runs`. The toolchain gives handles only to `main` and to tests, so as a function like others, it takes
+# them.
+TEST = re.compile(r"(?ms)^#\[test\]\nfn (\w+)\(rt: HostRuntime\) (\{.*?^\})")
+TAKER = """pub(crate) fn {name}<H: std::process::Abort + std::sync::Wait + std::thread::Threads + Sync>(
+    {more}rt: &H,
+    alloc: std::alloc::Global,
+)"""
+# The file of `test_runs` that has all its tests.
+ALL = """//! All tests.
+
+// Runs the test of a name, and returns whether there is one. If it fails, the program stops.
+{taker} -> bool {{
+    match name {{
+{arms}        _ => return false,
+    }}
+    true
+}}
 """
 # `rt try` also begins a check, which takes as long as the translation and only looks for reserved names. A build needs
 # none.
@@ -128,9 +154,8 @@ def kit_beside(folder, kept):
     write_script(f"{folder}/toolchain/bin/clang", KEEPER.format(kept=kept, clang=f"{whole}/toolchain/bin/clang"))
 
 
-def module_of(name, folder, *words, top=TOP):
-    """The module of a program, as a file in the folder. The words go to `rt try`, which works in the repository
-    `top`."""
+def module_of(name, folder, top, *words):
+    """The module of a program of the repository `top`, as a file in the folder. The words go to `rt try`."""
     kept = f"{folder}/kept.bc"
     kit_beside(f"{folder}/kit", kept)
     pipes = {"stdin": subprocess.DEVNULL, "stdout": subprocess.PIPE, "stderr": subprocess.PIPE}
@@ -141,36 +166,80 @@ def module_of(name, folder, *words, top=TOP):
     return kept
 
 
+def sources_in_tests(name):
+    """The sources of a program in tests/. `rt ci` would refuse them as .rt files."""
+    return sorted(glob.glob(f"{TOP}/tests/{name}/*.rt.txt"))
+
+
+def tests():
+    """The tests of `test_runs`, each by its module and its name."""
+    for path in sources_in_tests("test_runs"):
+        with open(path, encoding="utf-8") as file:
+            for test in TEST.finditer(file.read()):
+                yield f"{os.path.basename(path).removesuffix('.rt.txt')}::{test[1]}"
+
+
 def copy_sources(top):
-    """Copies the crates' sources to the repository `top`."""
+    """Copies the crates' sources to the repository `top`, and makes a crate of each program in tests/."""
     shutil.copytree(f"{TOP}/crates", f"{top}/crates", ignore=shutil.ignore_patterns("data", "must-fail", "out"))
-    shutil.copy(f"{TOP}/crates.txt", top)
+    with open(f"{top}/crates.txt", "w", encoding="utf-8") as table:
+        for path in TABLES:
+            with open(path, encoding="utf-8") as file:
+                table.write(file.read())
+    for path in sources_in_tests("*"):
+        name, file = os.path.relpath(path, f"{TOP}/tests").split(os.sep)
+        os.makedirs(f"{top}/crates/{name}/src", exist_ok=True)
+        shutil.copy(path, f"{top}/crates/{name}/src/{file.removesuffix('.txt')}")
+    if os.path.isdir(f"{top}/crates/test_runs"):
+        name_tests(f"{top}/crates/test_runs/src")
 
 
-def as_module(path, name):
-    """Makes the root file of a program a module of that name: without its `main`, and with the paths of its new
-    place."""
+def name_tests(folder):
+    """Makes the tests in these sources functions like others, and writes the file that runs each by its name."""
+    for path in glob.glob(f"{folder}/*.rt"):
+        change(path, lambda text: TEST.sub(as_function, text))
+    arms = "".join(f'        "{test}" => crate::{test}(rt, alloc),\n' for test in tests())
+    taker = TAKER.format(name="run_named", more="name: &str,\n    ")
+    with open(f"{folder}/all.rt", "w", encoding="utf-8") as file:
+        file.write(ALL.format(taker=taker, arms=arms))
+
+
+def as_function(test):
+    """A test as a function like others."""
+    body = test[2].replace("&rt", "rt").replace("rt.alloc()", "alloc")
+    return f"{TAKER.format(name=test[1], more='')} {body}"
+
+
+def change(path, changed):
+    """Changes the text of a file."""
     with open(path, encoding="utf-8") as file:
-        text = file.read().replace("#![tactic(auto)]\n", "").replace("crate::", f"crate::{name}::")
-    text = re.sub(r"(?ms)^fn main\(.*?^}\n", "", text)
+        text = changed(file.read())
     with open(path, "w", encoding="utf-8") as file:
         file.write(text)
 
 
-def copy_with_both(top):
-    """Copies the crates' sources to the repository `top`, and adds the crate `both` with the two programs."""
+def as_module(text, name):
+    """The text of a program's file in a module of this name: without its `main`, and with the paths of its new
+    place."""
+    text = text.replace("#![tactic(auto)]\n", "").replace("crate::", f"crate::{name}::")
+    return re.sub(r"(?ms)^fn main\(.*?^}\n", "", text)
+
+
+def copy_joined(joined, top):
+    """Copies the crates' sources to the repository `top`, and adds a crate of several programs."""
     copy_sources(top)
-    root = f"{top}/crates/both/src"
+    names, main = JOINED[joined]
+    root = f"{top}/crates/{joined}/src"
     os.makedirs(root)
-    shutil.copy(f"{TOP}/tools/both.main", f"{root}/main.rt")
-    for name in TWINS:
+    shutil.copy(f"{TOP}/{main}", f"{root}/main.rt")
+    for name in names:
         shutil.copytree(f"{top}/crates/{name}/src", f"{root}/{name}")
         for path in glob.glob(f"{root}/{name}/**/*.rt", recursive=True):
-            as_module(path, name)
+            change(path, functools.partial(as_module, name=name))
         shutil.move(f"{root}/{name}/main.rt", f"{root}/{name}.rt")
-    libraries = sorted({name for twin in TWINS for name in libraries_of()[twin]})
+    libraries = sorted({library for name in names for library in libraries_of()[name]})
     with open(f"{top}/crates.txt", "a", encoding="utf-8") as file:
-        file.write(f"both: {' '.join(libraries)}\n")
+        file.write(f"{joined}: {' '.join(libraries)}\n")
 
 
 def copy_with_tests(name, calls, top):
@@ -205,7 +274,7 @@ def build_object(name, calls, out):
     clang = f"{kit()}/toolchain/bin/clang"
     with tempfile.TemporaryDirectory() as folder:
         copy_with_tests(name, calls, f"{folder}/copy")
-        module = module_of(name, folder, "--test", top=f"{folder}/copy")
+        module = module_of(name, folder, f"{folder}/copy", "--test")
         subprocess.run([clang, "-S", "-emit-llvm", "-Xclang", "-disable-llvm-passes", "-x", "ir", module, "-o",
                         f"{folder}/module.ll"], check=True)
         with open(f"{folder}/module.ll", encoding="utf-8") as file:
@@ -229,13 +298,13 @@ def linked(objects, out):
     subprocess.run([f"{whole}/toolchain/bin/ld.lld", *words, *before, *objects, *libraries, *after], check=True)
 
 
-def build(name, out, level="-O1", top=TOP):
+def build(name, out, top, level="-O1"):
     """Builds the program of a crate of the repository `top` as the file `out`. Without optimization (-O0), it builds
     sooner and runs 50 to 100 times slower."""
     need_toolchain(name)
     os.makedirs(os.path.dirname(os.path.abspath(out)), exist_ok=True)
     with tempfile.TemporaryDirectory() as folder:
-        module = module_of(name, folder, top=top)
+        module = module_of(name, folder, top)
         compiled = watched("step 2 of 2, optimizing",
                            [f"{kit()}/toolchain/bin/clang", *FLAGS, level, module, "-o", f"{folder}/program.o"])
         compiled.check_returncode()
@@ -246,9 +315,11 @@ def build(name, out, level="-O1", top=TOP):
 
 
 def libraries_of():
-    """The libraries of each crate of the repository."""
-    with open(f"{TOP}/crates.txt", encoding="utf-8") as file:
-        rows = [line.split(":") for line in file if ":" in line and not line.startswith("#")]
+    """The libraries of each crate of the repository, and of each program in tests/."""
+    rows = []
+    for path in TABLES:
+        with open(path, encoding="utf-8") as file:
+            rows += [line.split(":") for line in file if ":" in line and not line.startswith("#")]
     return {words.split()[0]: names.split() for words, names in rows}
 
 
@@ -267,7 +338,7 @@ def crates_of(name):
 def newest_source(name):
     """When a source of the crate, or of one that it depends on, was last written."""
     sources = [path for crate in crates_of(name)
-               for path in glob.glob(f"{TOP}/crates/{crate}/src/**/*.rt", recursive=True)]
+               for path in glob.glob(f"{TOP}/crates/{crate}/src/**/*.rt", recursive=True) + sources_in_tests(crate)]
     return max(os.stat(path).st_mtime for path in sources)
 
 
@@ -290,33 +361,38 @@ def kept(name):
     return unproved
 
 
-def build_both():
-    """Builds the two programs as one, with two names."""
+def joined_with(name):
+    """The program that has this name and others, and all its names."""
+    for joined, (names, _) in JOINED.items():
+        if name in names:
+            return joined, names
+    return stop(f"{name} is none of the programs that are kept")
+
+
+def build_joined(joined, names):
+    """Builds programs as one, which has their names."""
     with tempfile.TemporaryDirectory() as folder:
-        copy_with_both(f"{folder}/copy")
-        build("both", f"{TOP}/.built/both", top=f"{folder}/copy")
-    for name in TWINS:
+        copy_joined(joined, f"{folder}/copy")
+        build(joined, f"{TOP}/.built/{joined}", f"{folder}/copy")
+    for name in names:
         beside = f"{TOP}/.built/{name}.{os.getpid()}"
-        os.link(f"{TOP}/.built/both", beside)
+        os.link(f"{TOP}/.built/{joined}", beside)
         os.replace(beside, f"{TOP}/.built/{name}")
-    os.remove(f"{TOP}/.built/both")
+    os.remove(f"{TOP}/.built/{joined}")
 
 
 def build_once(name, program):
     """Builds a program, unless another process has built it by then."""
     os.makedirs(os.path.dirname(program), exist_ok=True)
-    lock = f"{TOP}/.built/both.lock" if name in TWINS else f"{program}.lock"
-    with open(lock, "w", encoding="utf-8") as file:
+    joined, names = joined_with(name)
+    with open(f"{TOP}/.built/{joined}.lock", "w", encoding="utf-8") as file:
         fcntl.flock(file, fcntl.LOCK_EX)
         if is_current(program, name):
             return
-        also = f", and {' and '.join(twin for twin in TWINS if twin != name)} with it" if name in TWINS else ""
-        announce(f"{name}: building it without proofs, once, as {program}{also}; this takes about four minutes of one "
-                 "processor")
-        if name in TWINS:
-            build_both()
-        else:
-            build(name, program)
+        others = " and ".join(other for other in names if other != name)
+        announce(f"{name}: building it without proofs, once, as {program}, and {others} with it; this takes about four "
+                 "minutes of one processor")
+        build_joined(joined, names)
 
 
 def leave_sudo():
@@ -339,10 +415,14 @@ def main():
         build_object(*words[1:])
     elif words[:1] == ["--keep"] and len(words) > 1:
         leave_sudo()
-        for name in words[1:]:
-            print(kept(name))
+        with concurrent.futures.ThreadPoolExecutor(len(words)) as pool:
+            for program in pool.map(kept, words[1:]):
+                print(program)
     elif len(words) in (2, 3):
-        build(*words)
+        name, out, *level = words
+        with tempfile.TemporaryDirectory() as folder:
+            copy_sources(f"{folder}/copy")
+            build(name, out, f"{folder}/copy", *level)
     else:
         sys.exit(__doc__)
 

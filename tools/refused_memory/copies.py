@@ -1,13 +1,13 @@
 #!/usr/bin/env python3
 """Refuses memory to a recording whose segments are sent twice, at each allocation in turn.
 
-    copies.py TESTS [--most N] [--jobs N]
+    copies.py [--most N] [--jobs N]
 
-TESTS is the test program of `test_runs`, which `rt test` in that crate leaves in `out/`. A segment that is sent
-twice is copied. If the memory for the copy is refused, the segment is sent once, and the test still passes. If another
-allocation is refused, there is no recording, or memory runs out, and the test reports it. Anything else (a case without
-a yes, a signal other than that of a failed test, a run of more than 60 seconds) is wrong and is printed. The last line
-has the counts; the exit status is 1 if a run was wrong, or if no refusal affected a copy.
+The recording is a test of the program `test_runs`. A segment that is sent twice is copied. If the memory for the copy
+is refused, the segment is sent once, and the test still passes. If another allocation is refused, there is no
+recording, or memory runs out, and the test reports it. Anything else (a case without a yes, a signal other than that
+of a failed test, a run of more than 60 seconds) is wrong and is printed. The last line has the counts; the exit status
+is 1 if a run was wrong, or if no refusal affected a copy.
 """
 import argparse
 import concurrent.futures
@@ -18,11 +18,12 @@ import sys
 import tempfile
 
 HERE = os.path.dirname(os.path.abspath(__file__))
-sys.path.insert(0, HERE)
+sys.path[:0] = [HERE, os.path.dirname(HERE)]
 
 from sweep import built_library
+from unproved import kept
 
-TEST = "tests::turns::segments_sent_twice_are_explained"
+TEST = "turns::segments_sent_twice_are_explained"
 
 # What the test prints if memory ran out elsewhere.
 ENDED = ("no books", "out of memory", "another answer")
@@ -46,20 +47,20 @@ def told(answer):
     status, text = answer
     if status == 0:
         return "copy"
-    # A false assertion aborts the test.
+    # A false assertion aborts the test. Without memory for its words, the program doesn't begin one.
     is_told = any(f'left: "{word}"' in text for word in ENDED)
-    return "ended" if status == -signal.SIGABRT and is_told else None
+    is_ended = status == -signal.SIGABRT and is_told or (status, text) == (1, "Error: Kind(OutOfMemory)\n")
+    return "ended" if is_ended else None
 
 
 def main():
     words = argparse.ArgumentParser(description=__doc__.splitlines()[0])
-    words.add_argument("tests", metavar="TESTS", help="the test program of test_runs")
     words.add_argument("--most", metavar="N", type=int, default=4000,
                        help="how many allocations are refused at most, evenly spread (default: 4000)")
     words.add_argument("--jobs", metavar="N", type=int, default=os.cpu_count(),
                        help="how many runs at once (default: one for each processor)")
     words = words.parse_args()
-    program = os.path.abspath(words.tests)
+    program = kept("test_runs")
     with tempfile.TemporaryDirectory() as folder, concurrent.futures.ThreadPoolExecutor(words.jobs) as pool:
         library = built_library(folder)
         counts = os.path.join(folder, "count")
