@@ -133,13 +133,14 @@ def untried(edits):
 
 
 def one_each(edits):
-    """The edits without a promise, and one body for each promise: one of the promise's own function if it has one."""
-    own = {}
+    """The edits without a promise, and one body for each promise: one in the lowest crate, and there, if there is one,
+    in another function than the promise's own, since the functions that it calls are checked with it."""
+    chosen = {}
     for edit in edits:
-        is_own = edit.promise == f"{edit.crate}::{edit.function.split('::')[-1]}"
-        if edit.promise not in own or is_own and not own[edit.promise][0]:
-            own[edit.promise] = (is_own, edit)
-    return [edit for edit in edits if not edit.promise or own[edit.promise][1] is edit]
+        cost = (crates().index(edit.crate), edit.promise.endswith(f"::{edit.function.split('::')[-1]}"))
+        if edit.promise not in chosen or cost < chosen[edit.promise][0]:
+            chosen[edit.promise] = (cost, edit)
+    return [edit for edit in edits if not edit.promise or chosen[edit.promise][1] is edit]
 
 
 def rows(edits):
