@@ -157,7 +157,8 @@ def goals_in(line):
     """The goals that a line of a check says aren't proved, and the function if the line names it by its proof file."""
     note, answer, search = (form.search(line) for form in (NOTE, ANSWER, SEARCH))
     if answer:
-        return [] if TAKEN.search(answer[3]) else [answer[2]], answer[1].replace("/", "::")
+        # A function that calls itself has its proof in a folder +NAME.
+        return [] if TAKEN.search(answer[3]) else [answer[2]], answer[1].replace("/", "::").replace("+", "")
     return [note[1]] if note else re.findall(r"`([^`]*)`", search[1]) if search else [], ""
 
 

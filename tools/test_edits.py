@@ -118,6 +118,7 @@ class Judged(unittest.TestCase):
         self.assertFalse(judged(BY_CLAUSES, "only"))
         self.assertFalse(judged(BY_INDEX, "reads"))
         self.assertTrue(judged(BY_ANSWER, "found"))
+        self.assertTrue(judged(BY_ANSWER.replace("/read_near", "/+read_near"), "found"))
         self.assertFalse(judged(BY_NAME, "found"))
         self.assertFalse(judged(PROVED, "reads"))
 
