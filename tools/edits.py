@@ -41,7 +41,7 @@ WAITS = ("no proof: it calls", "depends on")
 # What a check says of a goal that it doesn't prove: in a note, of a proof file, or in the line of a function whose
 # proof it looked for.
 NOTE = re.compile(r"note: \S+?:\d+:\d+: it is not proved that .*? \(`([^`]*)`\)")
-ANSWER = re.compile(r"\S*?proofs/(\S+)/(?:Answers|Proof)\.antt:\d+:\d+: error: `([^`]*)`: (.*)")
+ANSWER = re.compile(r"\S*?proofs/(\S+)\.antt:\d+:\d+: error: `([^`]*)`: (.*)")
 SEARCH = re.compile(r"`search` did not prove ((?:`[^`]*`(?:, | and )?)*)")
 # A proof file that names what the edit took away says nothing of a goal.
 TAKEN = re.compile(r"has no field|is not in scope|has no `|was not admitted")
@@ -154,11 +154,13 @@ def rows(edits):
 
 
 def goals_in(line):
-    """The goals that a line of a check says aren't proved, and the function if the line names it by its proof file."""
+    """The goals that a line of a check says aren't proved, and the function, or the file of lemmas, if the line names
+    it."""
     note, answer, search = (form.search(line) for form in (NOTE, ANSWER, SEARCH))
     if answer:
-        # A function that calls itself has its proof in a folder +NAME.
-        return [] if TAKEN.search(answer[3]) else [answer[2]], answer[1].replace("/", "::").replace("+", "")
+        # The proof of a function is in a folder; that of one that calls itself, in a folder +NAME.
+        place = re.sub(r"/(Answers|Proof)$", "", answer[1]).replace("/", "::").replace("+", "")
+        return [] if TAKEN.search(answer[3]) else [answer[2]], place
     return [note[1]] if note else re.findall(r"`([^`]*)`", search[1]) if search else [], ""
 
 
@@ -169,7 +171,7 @@ def clause_of(goal):
 
 def functions_in(told):
     """What a check says of each function, by its name: the end of its line, and the clauses and goals that it didn't
-    prove.
+    prove. The lemmas that it didn't prove have the name "".
 
     In a proof file, a clause that isn't proved may be true, with a proof that doesn't fit the edit.
     """
@@ -184,9 +186,10 @@ def functions_in(told):
         if own:
             found[own[1]] = (own[2], goals)
             goals = []
+    lemmas = found.setdefault("", ("", []))
     for function, goal in named:
-        for name in ending(found, function):
-            found[name][1].append(goal)
+        for _, own in [found[name] for name in ending(found, function)] or [lemmas]:
+            own.append(goal)
     return {name: (said, {clause_of(goal) for goal in goals}) for name, (said, goals) in found.items()}
 
 
@@ -207,6 +210,8 @@ def judge(edit, found):
         return edit.is_accepted, "proved, as it should be" if edit.is_accepted else "PROVED"
     if edit.is_accepted or not said.startswith(REFUSED):
         return False, f"NOT REFUSED BUT: {said[:200]}" if not edit.is_accepted else f"NOT PROVED: {said[:200]}"
+    if edit.is_of_definition:
+        clauses = clauses | found[""][1]
     if not clauses:
         return False, f"refused BY NO GOAL; its proof may name what is gone: {said[:200]}"
     if edit.clause and edit.clause not in clauses:
@@ -248,7 +253,7 @@ class Room:
         except ValueError as fault:
             told = f"error: it can't be made: {fault}"
         found = functions_in(told)
-        if found and re.search(r"(?m)^(only|logic)=", told):
+        if len(found) > 1 and re.search(r"(?m)^(only|logic)=", told):
             return [(edit, *judge(edit, found)) for edit in edits]
         if len(edits) > 1:
             return None

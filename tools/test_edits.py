@@ -27,6 +27,10 @@ BY_NAME = """\
 ./proofs/word/read_near/Answers.antt:6:52: error: `returns-clause-found`: record `In` has no field `named`
 fn seqno::word::read_near: not proved
 """
+BY_LEMMA = """\
+./proofs/NearLemmas.antt:6:52: error: `near`: the two types differ
+fn seqno::word::read_near: not proved
+"""
 BY_INDEX = """\
 note: src/word.rt:27:1: it is not proved that the index is in bounds (`index-in-bounds`)
 fn seqno::word::read_near: not proved
@@ -50,9 +54,10 @@ def is_function(crate, name):
     return any(re.search(rf"\bfn {name}\b", tool.read(path)) for path in sources)
 
 
-def judged(told, clause="", accepted=False):
+def judged(told, clause="", accepted=False, definition=False):
     """What the tool says of a read_near that is edited, if a check prints this."""
-    edit = types.SimpleNamespace(function="word::read_near", clause=clause, is_accepted=accepted)
+    edit = types.SimpleNamespace(function="word::read_near", clause=clause, is_accepted=accepted,
+                                 is_of_definition=definition)
     return tool.judge(edit, tool.functions_in(told))[0]
 
 
@@ -126,6 +131,11 @@ class Judged(unittest.TestCase):
         self.assertTrue(judged(PROVED, accepted=True))
         self.assertFalse(judged(BY_CLAUSES, accepted=True))
 
+    def test_lemmas_about_a_definition_decide(self):
+        self.assertTrue(judged(BY_LEMMA, definition=True))
+        self.assertFalse(judged(BY_LEMMA))
+        self.assertFalse(judged(BY_NAME, definition=True))
+
     def test_a_function_is_tried_once_in_a_round(self):
         one, two, other, definition, law = (
             types.SimpleNamespace(function=name, is_of_definition=name >= "a::h")
@@ -134,7 +144,8 @@ class Judged(unittest.TestCase):
         self.assertEqual(tool.next_round([definition, law]), [definition])
 
     def test_what_cannot_be_read_is_found_by_halves(self):
-        good, bad = (types.SimpleNamespace(function=name, clause="", is_accepted=False, name=name) for name in "fg")
+        good, bad = (types.SimpleNamespace(function=name, clause="", is_accepted=False, is_of_definition=False)
+                     for name in "fg")
         refused = "fn a::f: no proof: expected answers; `search` did not prove `returns`\nonly=1 proved=0\n"
         unread = "src/a.rt:1:1: error[unexpected-token]\n"
         room = types.SimpleNamespace(check=lambda chosen: unread if bad in chosen else refused)
