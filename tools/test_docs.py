@@ -200,7 +200,7 @@ class Facts(unittest.TestCase):
     def test_contributing_lists_the_suites(self):
         refused = subprocess.run([f"{docs.TOP}/test", "nosuch"], stderr=subprocess.PIPE, text=True)
         self.assertEqual(refused.returncode, 2)
-        suites = re.search(r"the suites are ([\w ]+), and bodies quick and cases$", refused.stderr)[1]
+        suites = re.search(r"the suites are ([\w ]+), and edits bodies quick and cases$", refused.stderr)[1]
         row = re.search(r"^\| `\./test NAME \.\.` \| (.*) \|$", self.page("CONTRIBUTING.md"), re.M)[1]
         self.assertEqual(re.findall(r"`(\w+)`", row), suites.split())
 
