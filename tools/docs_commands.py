@@ -24,6 +24,7 @@ LEFT_OUT = {
     "TCPWIT_LIB_DIR=": "needs the library",
     "pip wheel ": "bindings/test builds a wheel",
     "./test": "calls this script, and proves",
+    "tools/runs.py": "builds the tests; it is a suite of ./test",
     "importer/test": "is a suite of ./test",
     "stacks/run lwip": "needs a package; stacks/test runs some of the scenarios",
     "stacks/run ./my-stack --profile my-profile --out": "takes minutes; stacks/test --all runs all scenarios",
