@@ -140,7 +140,7 @@ none_more most limit is_ended line next a b c s read is none =
     none_read most line next a b c s read.appends read.bytes
     (subst (λ (r : Bool). IsPartRead r b c (drop (length line) next)) is read.part) none
 
--- the same of a read that may go on behind the line
+-- the same of a read that may go on after the line
 pub end_more : (most before limit : ℕ) (stop : Option ℕ) (line next : List ℕ) (a b c : Option (List ℕ)) → SoFar most before line a b
     → IsAppended limit (IsEndRead stop b c) b c line next → stop ≡ None → SoFar most before next a c
 end_more most before limit stop line next a b c s read is =

@@ -1,7 +1,7 @@
 //! The parts of what is kept of an endpoint with data in flight, each by itself.
 //!
 //! `spec_flights` has the definitions. `scoreboard` has the part that is left, what is known of outstanding positions,
-//! and `flights` joins all. An edit in `must-fail` proves its crate anew, so the functions that need neither are here.
+//! and `flights` joins all. Each round of edits reads its whole crate, so the functions that need neither are here.
 //! Positions are those of a stream, 0 for its SYN.
 //!
 //! - `sides`: which endpoints acknowledge selectively

@@ -40,7 +40,7 @@ impl Sheet {
         self.note(done);
     }
 
-    /// Writes a sentence with these numbers in place of each `{}`.
+    /// Writes a sentence with these numbers instead of its `{}`, one for each.
     pub fn say(&mut self, sentence: &str, numbers: &[u64]) {
         let mut left = numbers.iter();
         for words in sentence.split("{}") {
